@@ -1,0 +1,7 @@
+pub mod Tests
+pub mod Searches
+pub mod Lists
+pub mod Cells
+pub mod Places
+pub mod Effects
+pub mod Checks

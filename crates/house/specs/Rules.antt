@@ -1,0 +1,271 @@
+-- The rules of the desk: which number a request gets, what a done request changes, and what it is answered.
+-- In document 01's words and order. Every definition is total: it speaks of every house value and every request.
+-- Assumes nothing.
+use Prim.Native.Nat.{ℕ, _+_}
+use mathlib.Core.Bool.{Bool, true, false, _&&_, _||_, not, cond}
+use mathlib.Core.List.{List, [], _∷_}
+use lib.ListN.{set}
+use lib.Dec.{eqb, ltb, leb}
+use Rattle.house.specs.declared.Answer.{Answer}
+use Rattle.house.specs.declared.Answer.the-variants.{Refused, Done, Ticket, Pair, Signals}
+use Rattle.house.specs.declared.Found.{Found}
+use Rattle.house.specs.declared.House.{House}
+use Rattle.house.specs.declared.Item.{Item}
+use Rattle.house.specs.declared.Mark.the-variants.{Read, Write, Certify, Signalled}
+use Rattle.house.specs.declared.Outcome.{Outcome}
+use Rattle.house.specs.declared.Reply.{Reply}
+use Rattle.house.specs.declared.Request.{Request}
+use Rattle.house.specs.declared.Standing.the-variants.{Active, Certified}
+use Rattle.house.specs.Search.{any, ifFound, nobody, mapFrom}
+use Rattle.house.specs.Cell.{has, marked, unmarked, withMark, mapCells, holds, otherHolds, peerHolds, isSignalled, firstSignalled, countSignalled}
+use Rattle.house.specs.House.{dominates, above, levelOf, vacant, itemAt, placeAt, nextAt, withPending, withItems, withPlace, withNext, withCells, isActive, isCertified, seek, vacancy}
+
+-- "Operations: 0 begin, 1 read, 2 write, 3 certify, 4 commit, 5 abort, 6 ask."
+
+abbrev pub begin : ℕ
+begin = 0
+
+abbrev pub read : ℕ
+read = 1
+
+abbrev pub write : ℕ
+write = 2
+
+abbrev pub certify : ℕ
+certify = 3
+
+abbrev pub commit : ℕ
+commit = 4
+
+abbrev pub abort : ℕ
+abort = 5
+
+abbrev pub ask : ℕ
+ask = 6
+
+infix 60 _is_
+abbrev pub _is_ : Request → ℕ → Bool
+q is n = eqb (q .operation) n
+
+-- THE CHECKS. One named test for each row of the table of numbers
+
+-- the place of the transaction that asks
+abbrev pub asker : House → Request → Found
+asker h q = seek (h .places) (q .level) (q .ticket)
+
+-- 3: "operation above 6"
+unfoldable pub noOperation : Request → Bool
+noOperation q = ltb ask (q .operation)
+
+-- 4: "level above 3"
+unfoldable pub noLevel : Request → Bool
+noLevel q = ltb 3 (q .level)
+
+-- "Begin uses no field after the level. Read uses item and ticket. Write uses item, ticket and value. The others use the ticket."
+abbrev pub usesItem : Request → Bool
+usesItem q = q is read || q is write
+
+-- 5: "an unused field is not zero"
+unfoldable pub unusedSet : Request → Bool
+unusedSet q =
+    (not (usesItem q) && not (eqb (q .item) 0))
+    || (q is begin && not (eqb (q .ticket) 0))
+    || (not (q is write) && not (eqb (q .value) 0))
+
+-- 6: "no open transaction at that level has that ticket"
+unfoldable pub unknown : House → Request → Bool
+unknown h q = not (q is begin) && nobody (asker h q)
+
+-- 7: "no such item". The house has 64 rows, whatever its count says
+unfoldable pub noItem : House → Request → Bool
+noItem h q = usesItem q && (leb (h .count) (q .item) || leb 64 (q .item))
+
+-- 8: "read of an item above the level; write of an item not at the level"
+unfoldable pub forbidden : House → Request → Bool
+forbidden h q =
+    let level = itemAt (h .items) (q .item) .level in
+    cond (q is read) (not (dominates (q .level) level))
+    (cond (q is write) (not (eqb level (q .level)))
+    false)
+
+-- 2: "the transaction has a signalled cell (read, write, certify, commit)"
+unfoldable pub stopped : House → Request → Bool
+stopped h q = (q is read || q is write || q is certify || q is commit) && ifFound (asker h q) (isSignalled (h .cells)) false
+
+-- 9: "wrong time: read, write or certify when certified; commit when active"
+unfoldable pub untimely : House → Request → Bool
+untimely h q =
+    let standing = ifFound (asker h q) (λ me. placeAt (h .places) me .standing) (vacant .standing) in
+    cond (q is read || q is write || q is certify) (isCertified standing)
+    (cond (q is commit) (isActive standing)
+    false)
+
+-- 10: "write of an item whose committed version is 4,294,967,295"
+unfoldable pub wornOut : House → Request → Bool
+wornOut h q = q is write && leb 4294967295 (itemAt (h .items) (q .item) .version)
+
+-- 11: "begin: all eight places of the level are taken"
+unfoldable pub crowded : House → Request → Bool
+crowded h q = q is begin && nobody (vacancy (h .places) (q .level))
+
+-- 12: "begin: no ticket is left at the level"
+unfoldable pub ticketless : House → Request → Bool
+ticketless h q = q is begin && eqb (nextAt (h .next) (q .level)) 0
+
+-- "another transaction of the same level holds a read lock" on item i, which is "written by this transaction"
+unfoldable pub waitsAt : List ℕ → ℕ → ℕ → Bool
+waitsAt cells me i = holds cells Write me i && peerHolds cells Read me i
+
+-- read: "another transaction holds certify on the item"; write: "another holds write or certify on the item"; certify: on
+-- any item
+unfoldable pub conflict : List ℕ → Request → ℕ → Bool
+conflict cells q me =
+    cond (q is read) (otherHolds cells Certify me (q .item))
+    (cond (q is write) (otherHolds cells Write me (q .item) || otherHolds cells Certify me (q .item))
+    (cond (q is certify) (any (waitsAt cells me) 0 64)
+    false))
+
+-- 1: "delayed: a lock conflict; ask again later"
+unfoldable pub delayed : House → Request → Bool
+delayed h q = ifFound (asker h q) (conflict (h .cells) q) false
+
+-- "Order of checks: 3, 4, 5, 6, 7, 8, 2, 9, 10, 11, 12, 1."
+unfoldable pub checks : House → Request → List (ℕ × Bool)
+checks h q =
+    (3, noOperation q)
+    ∷ (4, noLevel q)
+    ∷ (5, unusedSet q)
+    ∷ (6, unknown h q)
+    ∷ (7, noItem h q)
+    ∷ (8, forbidden h q)
+    ∷ (2, stopped h q)
+    ∷ (9, untimely h q)
+    ∷ (10, wornOut h q)
+    ∷ (11, crowded h q)
+    ∷ (12, ticketless h q)
+    ∷ (1, delayed h q)
+    ∷ []
+
+-- "The first that applies is given, and it is given only then." 0 where none does
+abbrev pub foremost : List (ℕ × Bool) → ℕ
+foremost [] = 0
+foremost (x ∷ xs) = cond (x .1) (x .0) (foremost xs)
+
+unfoldable pub verdict : House → Request → ℕ
+verdict h q = foremost (checks h q)
+
+-- THE EFFECTS. What each done request changes, by the transaction at place `me`
+
+-- "the next ticket grows by one, or there is none after 4,294,967,295"; 0 says that there is none
+unfoldable pub ticketAfter : ℕ → ℕ
+ticketAfter t = cond (ltb t 4294967295) (t + 1) 0
+
+-- a version that "grows by one". The largest stays; no house that can be reached meets that
+unfoldable pub grown : ℕ → ℕ
+grown v = cond (ltb v 4294967295) (v + 1) v
+
+-- Begin: "The lowest free place of the level becomes active with the next ticket"
+unfoldable pub begun : House → ℕ → ℕ → House
+begun h l me =
+    let t = nextAt (h .next) l in
+    withNext (withPlace h me (record { standing = Active; ticket = t })) l (ticketAfter t)
+
+-- Read: "the read lock is set"
+unfoldable pub readBy : House → ℕ → ℕ → House
+readBy h me i = withCells h (withMark Read (h .cells) me i)
+
+-- "A transaction that holds the write lock gets the pending value and the committed version plus one. Any other gets the
+-- committed pair."
+unfoldable pub readAnswer : House → ℕ → ℕ → Answer
+readAnswer h me i =
+    let x = itemAt (h .items) i in
+    cond (holds (h .cells) Write me i) (Pair (x .pending) (grown (x .version))) (Pair (x .value) (x .version))
+
+-- Write: "the write lock is set and the pending value is the given one, also on a second write"
+unfoldable pub writtenBy : House → ℕ → ℕ → ℕ → House
+writtenBy h me i v = withItems (withCells h (withMark Write (h .cells) me i)) (set (h .items) i (withPending (itemAt (h .items) i) v))
+
+-- Certify: "all its write locks become certify locks, it is certified, and each read lock on those items held from a higher
+-- level is marked signalled". The cell c of place p and item i, after it
+unfoldable pub certifiedCell : List ℕ → ℕ → ℕ → ℕ → ℕ → ℕ
+certifiedCell cells me p i c =
+    cond (holds cells Write me i)
+    (cond (eqb p me) (marked Certify (unmarked Write c))
+    (cond (above (levelOf p) (levelOf me) && has Read c) (marked Signalled c)
+    c))
+    c
+
+unfoldable pub certifiedBy : House → ℕ → House
+certifiedBy h me =
+    let ticket = placeAt (h .places) me .ticket in
+    withPlace (withCells h (mapCells (certifiedCell (h .cells) me) (h .cells))) me (record { standing = Certified; ticket = ticket })
+
+-- "all its cells are cleared and its place is free"; what becomes of the items is said by f
+unfoldable pub clearedCell : ℕ → ℕ → ℕ → ℕ → ℕ
+clearedCell me p i c = cond (eqb p me) 0 c
+
+unfoldable pub left : (ℕ → Item → Item) → House → ℕ → House
+left f h me = withItems (withPlace (withCells h (mapCells (clearedCell me) (h .cells))) me vacant) (mapFrom 0 f (h .items))
+
+-- Commit: "Each item with its certify lock takes the pending value, and its version grows by one, however often it was
+-- written. Pending goes to 0"
+unfoldable pub committedItem : List ℕ → ℕ → ℕ → Item → Item
+committedItem cells me i x = cond (holds cells Certify me i) (record { level = x .level; value = x .pending; version = grown (x .version); pending = 0 }) x
+
+-- Abort: "Pending values of its items go to 0": of those it holds write or certify on
+unfoldable pub abortedItem : List ℕ → ℕ → ℕ → Item → Item
+abortedItem cells me i x = cond (holds cells Write me i || holds cells Certify me i) (withPending x 0) x
+
+-- Ask: "the lowest signalled item of the asker and .. how many are signalled (both 0 when none)"
+unfoldable pub askAnswer : List ℕ → ℕ → Answer
+askAnswer cells me = Signals (ifFound (firstSignalled cells me) (λ i. i) 0) (countSignalled cells me)
+
+-- THE REPLIES
+
+abbrev pub said : Request → ℕ → ℕ → ℕ → ℕ → ℕ → Reply
+said q number item ticket value version = record { number = number; operation = q .operation; item = item; ticket = ticket; value = value; version = version }
+
+-- "Every reply repeats operation, item and ticket as they came, with value and version 0, except these done replies: begin
+-- carries the new ticket; read carries value and version; ask carries in the item field the lowest signalled item of the
+-- asker and in the value field how many are signalled"
+abbrev pub replied : Request → Answer → Reply
+replied q (Refused n) = said q n (q .item) (q .ticket) 0 0
+replied q Done = said q 0 (q .item) (q .ticket) 0 0
+replied q (Ticket t) = said q 0 (q .item) t 0 0
+replied q (Pair v n) = said q 0 (q .item) (q .ticket) v n
+replied q (Signals i n) = said q 0 i (q .ticket) n 0
+
+abbrev pub outcome : House → Request → Answer → Outcome
+outcome h q a = record { house = h; reply = replied q a }
+
+-- THE STEP
+
+-- a done request of the transaction at place `me`
+unfoldable pub served : House → Request → ℕ → Outcome
+served h q me =
+    let read′ = outcome (readBy h me (q .item)) q (readAnswer h me (q .item)) in
+    let write′ = outcome (writtenBy h me (q .item) (q .value)) q Done in
+    let certify′ = outcome (certifiedBy h me) q Done in
+    let commit′ = outcome (left (committedItem (h .cells) me) h me) q Done in
+    let abort′ = outcome (left (abortedItem (h .cells) me) h me) q Done in
+    let ask′ = outcome h q (askAnswer (h .cells) me) in
+    cond (q is read) read′
+    (cond (q is write) write′
+    (cond (q is certify) certify′
+    (cond (q is commit) commit′
+    (cond (q is abort) abort′
+    ask′))))
+
+-- a done request; a place that nobody has is met by no request that passed the checks
+unfoldable pub performed : House → Request → Outcome
+performed h q =
+    let begin′ = ifFound (vacancy (h .places) (q .level)) (λ me. outcome (begun h (q .level) me) q (Ticket (nextAt (h .next) (q .level)))) (outcome h q (Refused 11)) in
+    let others = ifFound (asker h q) (served h q) (outcome h q (Refused 6)) in
+    cond (q is begin) begin′ others
+
+-- "Any number but 0 leaves the house as it was."
+unfoldable pub stepped : House → Request → Outcome
+stepped h q =
+    let n = verdict h q in
+    let done = performed h q in
+    cond (eqb n 0) done (outcome h q (Refused n))

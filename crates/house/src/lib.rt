@@ -1,0 +1,84 @@
+// The types of the desk: the house it keeps, the requests it takes, the replies it gives.
+// What they mean, and what the desk does with them, is said in specs/.
+
+// A row of the atlas. Its level is fixed; `pending` is 0 while nobody has written the item.
+pub struct Item {
+    pub level: u8,
+    pub value: u32,
+    pub version: u32,
+    pub pending: u32,
+}
+
+pub enum Standing {
+    Free,
+    Active,
+    Certified,
+}
+
+// Where a transaction stands while it is open. The ticket of a free place is 0.
+pub struct Place {
+    pub standing: Standing,
+    pub ticket: u32,
+}
+
+// The house passes through each step by value. Place p of level l is number l * 8 + p; a cell is a byte, the sum of the
+// weights of its marks, and the cells of one place lie together, so that a transaction's own 64 are scanned in one sweep.
+pub struct House {
+    pub count: usize,
+    pub items: [Item; 64],
+    pub places: [Place; 32],
+    pub next: [u32; 4],
+    pub cells: [u8; 2048],
+}
+
+// The marks that a lock cell may have.
+pub enum Mark {
+    Read,
+    Write,
+    Certify,
+    Signalled,
+}
+
+pub struct Request {
+    pub operation: u8,
+    pub level: u8,
+    pub item: u16,
+    pub ticket: u32,
+    pub value: u32,
+}
+
+pub struct Reply {
+    pub number: u8,
+    pub operation: u8,
+    pub item: u16,
+    pub ticket: u32,
+    pub value: u32,
+    pub version: u32,
+}
+
+// What a search answers.
+pub enum Found {
+    At(usize),
+    Nobody,
+}
+
+// What a request is answered; specs/Rules.antt (`replied`) gives the number and the values of each.
+pub enum Answer {
+    Refused(u8),
+    Done,
+    Ticket(u32),
+    Pair(u32, u32),
+    Signals(u16, u32),
+}
+
+// What a request yields: the next house and the reply.
+pub struct Outcome {
+    pub house: House,
+    pub reply: Reply,
+}
+
+// What an opening yields: the house, and 0 or the number of its refusal.
+pub struct Opening {
+    pub number: u8,
+    pub house: House,
+}
