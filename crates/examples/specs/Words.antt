@@ -1,0 +1,83 @@
+-- The words in which the marked examples are written: requests, replies, and what an example says.
+-- Assumes nothing.
+use Prim.Native.Nat.{ℕ}
+use mathlib.Core.List.{List, [], _∷_, _++_, map}
+use Rattle.house.specs.declared.House.{House}
+use Rattle.house.specs.declared.Place.{Place}
+use Rattle.house.specs.declared.Reply.{Reply}
+use Rattle.house.specs.declared.Request.{Request}
+use Rattle.house.specs.House.{placeAt}
+use Rattle.house.specs.Rules.{begin, read, write, certify, commit, abort, ask, stepped}
+use Rattle.house.specs.Opening.{opening}
+
+-- Requests, with the fields that each uses
+
+abbrev request : ℕ → ℕ → ℕ → ℕ → ℕ → Request
+request operation level item ticket value = record { operation = operation; level = level; item = item; ticket = ticket; value = value }
+
+abbrev pub begins : ℕ → Request
+begins l = request begin l 0 0 0
+
+abbrev pub reads : ℕ → ℕ → ℕ → Request
+reads l t i = request read l i t 0
+
+abbrev pub writes : ℕ → ℕ → ℕ → ℕ → Request
+writes l t i v = request write l i t v
+
+abbrev pub certifies : ℕ → ℕ → Request
+certifies l t = request certify l 0 t 0
+
+abbrev pub commits : ℕ → ℕ → Request
+commits l t = request commit l 0 t 0
+
+abbrev pub aborts : ℕ → ℕ → Request
+aborts l t = request abort l 0 t 0
+
+abbrev pub asks : ℕ → ℕ → Request
+asks l t = request ask l 0 t 0
+
+-- a read that carries a value
+abbrev pub readsWith : ℕ → ℕ → ℕ → ℕ → Request
+readsWith l t i v = request read l i t v
+
+-- a whole reply: number, operation, item, ticket, value, version
+abbrev pub says : ℕ → ℕ → ℕ → ℕ → ℕ → ℕ → Reply
+says number operation item ticket value version = record { number = number; operation = operation; item = item; ticket = ticket; value = value; version = version }
+
+abbrev pub Event : Type 0
+Event = Request × Reply
+
+-- An example: from a house opened with these levels, after `before` (each request with the reply that it gets), the request
+-- gets the reply, and the house then shows these places
+pub record Example : Type 0 where
+  pub levels : List ℕ
+  pub before : List Event
+  pub request : Request
+  pub reply : Reply
+  pub places : List (ℕ × Place)
+
+-- all that an example asks, in order, each with its reply
+abbrev pub talk : Example → List Event
+talk x = x .before ++ (x .request, x .reply) ∷ []
+
+-- What the desk gives where the example speaks: the number of the opening, every reply, and the places named
+
+abbrev pub replies : House → List Event → List Reply
+replies h [] = []
+replies h (e ∷ es) = let o = stepped h (e .0) in o .reply ∷ replies (o .house) es
+
+abbrev pub after : House → List Event → House
+after h [] = h
+after h (e ∷ es) = after (stepped h (e .0) .house) es
+
+abbrev pub Report : Type 0
+Report = ℕ × List Reply × List Place
+
+unfoldable pub given : Example → Report
+given x =
+    let o = opening (x .levels) in
+    let places = after (o .house) (talk x) .places in
+    (o .number, replies (o .house) (talk x), map (λ s. placeAt places (s .0)) (x .places))
+
+unfoldable pub expected : Example → Report
+expected x = (0, map (λ e. e .1) (talk x), map (λ s. s .1) (x .places))
