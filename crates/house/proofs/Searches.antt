@@ -27,8 +27,8 @@ module _ {A : Type 0} (f : ℕ → Bool) (hit : ℕ → A → A) (z : A) where
   next : (k N : ℕ) → k < N → scan f hit z k (N - k) ≡ cond (f k) (hit k (scan f hit z (k + 1) (N - (k + 1)))) (scan f hit z (k + 1) (N - (k + 1)))
   next k N h = rw add-one (scan-suc k (N - k) (N - suc k) (omega arith))
 
-  pub started : (k n : ℕ) → scan f hit z k n ≡ scan f hit z k (k + n - k)
-  started k n = let e : k + n - k ≡ n = omega arith in rw e
+  pub started : (k n N : ℕ) → N ≡ k + n → scan f hit z k n ≡ scan f hit z k (N - k)
+  started k n N h = let e : N - k ≡ n = omega arith in rw e
 
   pub passed : (k N : ℕ) → k < N → f k ≡ false → scan f hit z k (N - k) ≡ scan f hit z (k + 1) (N - (k + 1))
   passed k N h e = next k N h ∙ rw e
