@@ -66,7 +66,7 @@ pub has-marked : (n m : Mark) (c : ℕ) → has n (marked m c) ≡ (alike n m ||
 unfolding has marked
 has-marked n m c = elim (is (has m c)) [ inl e ↦ rw e (had n m c e) | inr e ↦ rw e (added n m c (eqb-false _ 1 e)) ]
 
-weight-some : (m : Mark) → 0 < weight m
+pub weight-some : (m : Mark) → 0 < weight m
 weight-some Read = omega arith
 weight-some Write = omega arith
 weight-some Certify = omega arith

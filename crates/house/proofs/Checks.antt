@@ -21,7 +21,7 @@ abbrev pub NoneApplies : List (ℕ × Bool) → Type 0
 NoneApplies [] = Unit {0}
 NoneApplies (x ∷ xs) = (x .1 ≡ false) × NoneApplies xs
 
-abbrev numbered : List (ℕ × Bool) → Bool
+abbrev pub numbered : List (ℕ × Bool) → Bool
 numbered [] = true
 numbered (x ∷ xs) = not (eqb (x .0) 0) && numbered xs
 

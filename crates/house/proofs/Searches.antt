@@ -3,6 +3,7 @@
 use Prim.Native.Nat.{ℕ, zero, suc, _+_, _-_, _<_, _≤_}
 use native.Mathlib.Omega.{arith}
 use native.Mathlib.Numerals.{add-one}
+use native.Mathlib.Nat.{add-zero}
 use mathlib.Core.Path.{_≡_, refl, sym, ap, _∙_}
 use mathlib.Core.Logic.{inl, inr}
 use mathlib.Core.Bool.{Bool, true, false, cond}
@@ -91,3 +92,23 @@ module _ (f : ℕ → Bool) where
   unfolding scan
   any-find k zero e = clash e refl
   any-find k (suc n) e = elim (is (f k)) [ inl y ↦ (k, rw y) | inr y ↦ let r = any-find (suc k) n (rw y at e) in (r .0, rw y (r .1)) ]
+
+-- A search from b on is one from 0 on, moved by b
+
+abbrev pub moved : ℕ → Found → Found
+moved b (At k) = At (b + k)
+moved b Nobody = Nobody
+
+from-j : (f g : ℕ → Bool) (b j n : ℕ) → ((k : ℕ) → k < j + n → f (b + k) ≡ g k) → find f (b + j) n ≡ moved b (find g j n)
+unfolding scan
+from-j f g b j zero e = refl
+from-j f g b j (suc n) e =
+    let s : suc (b + j) ≡ b + suc j = omega arith in
+    let here = e j (omega arith) in
+    elim (is (g j)) [
+      | inl y ↦ rw (here, y)
+      | inr y ↦ rw (here, y, s) (from-j f g b (suc j) n (λ k h. e k (omega arith)))
+    ]
+
+pub find-moved : (f g : ℕ → Bool) (b n : ℕ) → ((k : ℕ) → k < n → f (b + k) ≡ g k) → find f b n ≡ moved b (find g 0 n)
+find-moved f g b n e = rw (add-zero b) at (from-j f g b 0 n (λ k h. e k (omega arith)))

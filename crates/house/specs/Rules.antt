@@ -43,9 +43,9 @@ abort = 5
 abbrev pub ask : ℕ
 ask = 6
 
-infix 60 _is_
-abbrev pub _is_ : Request → ℕ → Bool
-q is n = eqb (q .operation) n
+infix 60 _does_
+abbrev pub _does_ : Request → ℕ → Bool
+q does n = eqb (q .operation) n
 
 -- THE CHECKS. One named test for each row of the table of numbers
 
@@ -63,18 +63,18 @@ noLevel q = ltb 3 (q .level)
 
 -- "Begin uses no field after the level. Read uses item and ticket. Write uses item, ticket and value. The others use the ticket."
 abbrev pub usesItem : Request → Bool
-usesItem q = q is read || q is write
+usesItem q = q does read || q does write
 
 -- 5: "an unused field is not zero"
 unfoldable pub unusedSet : Request → Bool
 unusedSet q =
     (not (usesItem q) && not (eqb (q .item) 0))
-    || (q is begin && not (eqb (q .ticket) 0))
-    || (not (q is write) && not (eqb (q .value) 0))
+    || (q does begin && not (eqb (q .ticket) 0))
+    || (not (q does write) && not (eqb (q .value) 0))
 
 -- 6: "no open transaction at that level has that ticket"
 unfoldable pub unknown : House → Request → Bool
-unknown h q = not (q is begin) && nobody (asker h q)
+unknown h q = not (q does begin) && nobody (asker h q)
 
 -- 7: "no such item". The house has 64 rows, whatever its count says
 unfoldable pub noItem : House → Request → Bool
@@ -84,33 +84,33 @@ noItem h q = usesItem q && (leb (h .count) (q .item) || leb 64 (q .item))
 unfoldable pub forbidden : House → Request → Bool
 forbidden h q =
     let level = itemAt (h .items) (q .item) .level in
-    cond (q is read) (not (dominates (q .level) level))
-    (cond (q is write) (not (eqb level (q .level)))
+    cond (q does read) (not (dominates (q .level) level))
+    (cond (q does write) (not (eqb level (q .level)))
     false)
 
 -- 2: "the transaction has a signalled cell (read, write, certify, commit)"
 unfoldable pub stopped : House → Request → Bool
-stopped h q = (q is read || q is write || q is certify || q is commit) && ifFound (asker h q) (isSignalled (h .cells)) false
+stopped h q = (q does read || q does write || q does certify || q does commit) && ifFound (asker h q) (isSignalled (h .cells)) false
 
 -- 9: "wrong time: read, write or certify when certified; commit when active"
 unfoldable pub untimely : House → Request → Bool
 untimely h q =
     let standing = ifFound (asker h q) (λ me. placeAt (h .places) me .standing) (vacant .standing) in
-    cond (q is read || q is write || q is certify) (isCertified standing)
-    (cond (q is commit) (isActive standing)
+    cond (q does read || q does write || q does certify) (isCertified standing)
+    (cond (q does commit) (isActive standing)
     false)
 
 -- 10: "write of an item whose committed version is 4,294,967,295"
 unfoldable pub wornOut : House → Request → Bool
-wornOut h q = q is write && leb 4294967295 (itemAt (h .items) (q .item) .version)
+wornOut h q = q does write && leb 4294967295 (itemAt (h .items) (q .item) .version)
 
 -- 11: "begin: all eight places of the level are taken"
 unfoldable pub crowded : House → Request → Bool
-crowded h q = q is begin && nobody (vacancy (h .places) (q .level))
+crowded h q = q does begin && nobody (vacancy (h .places) (q .level))
 
 -- 12: "begin: no ticket is left at the level"
 unfoldable pub ticketless : House → Request → Bool
-ticketless h q = q is begin && eqb (nextAt (h .next) (q .level)) 0
+ticketless h q = q does begin && eqb (nextAt (h .next) (q .level)) 0
 
 -- "another transaction of the same level holds a read lock" on item i, which is "written by this transaction"
 unfoldable pub waitsAt : List ℕ → ℕ → ℕ → Bool
@@ -120,9 +120,9 @@ waitsAt cells me i = holds cells Write me i && peerHolds cells Read me i
 -- any item
 unfoldable pub conflict : List ℕ → Request → ℕ → Bool
 conflict cells q me =
-    cond (q is read) (otherHolds cells Certify me (q .item))
-    (cond (q is write) (otherHolds cells Write me (q .item) || otherHolds cells Certify me (q .item))
-    (cond (q is certify) (any (waitsAt cells me) 0 64)
+    cond (q does read) (otherHolds cells Certify me (q .item))
+    (cond (q does write) (otherHolds cells Write me (q .item) || otherHolds cells Certify me (q .item))
+    (cond (q does certify) (any (waitsAt cells me) 0 64)
     false))
 
 -- 1: "delayed: a lock conflict; ask again later"
@@ -249,11 +249,11 @@ served h q me =
     let commit′ = outcome (left (committedItem (h .cells) me) h me) q Done in
     let abort′ = outcome (left (abortedItem (h .cells) me) h me) q Done in
     let ask′ = outcome h q (askAnswer (h .cells) me) in
-    cond (q is read) read′
-    (cond (q is write) write′
-    (cond (q is certify) certify′
-    (cond (q is commit) commit′
-    (cond (q is abort) abort′
+    cond (q does read) read′
+    (cond (q does write) write′
+    (cond (q does certify) certify′
+    (cond (q does commit) commit′
+    (cond (q does abort) abort′
     ask′))))
 
 -- a done request; a place that nobody has is met by no request that passed the checks
@@ -261,7 +261,7 @@ unfoldable pub performed : House → Request → Outcome
 performed h q =
     let begin′ = ifFound (vacancy (h .places) (q .level)) (λ me. outcome (begun h (q .level) me) q (Ticket (nextAt (h .next) (q .level)))) (outcome h q (Refused 11)) in
     let others = ifFound (asker h q) (served h q) (outcome h q (Refused 6)) in
-    cond (q is begin) begin′ others
+    cond (q does begin) begin′ others
 
 -- "Any number but 0 leaves the house as it was."
 unfoldable pub stepped : House → Request → Outcome
