@@ -3,10 +3,9 @@
 use Prim.Native.Nat.{ℕ, zero, suc, _+_, _-_, _<_, _≤_}
 use native.Mathlib.Omega.{arith}
 use native.Mathlib.Numerals.{add-one}
-use native.Mathlib.Nat.{add-zero}
 use mathlib.Core.Path.{_≡_, refl, sym, ap, _∙_}
 use mathlib.Core.Logic.{inl, inr}
-use mathlib.Core.Bool.{Bool, true, false, cond}
+use mathlib.Core.Bool.{Bool, true, false, cond, _||_}
 use Rattle.house.specs.declared.Found.{Found}
 use Rattle.house.specs.declared.Found.the-variants.{At, Nobody}
 use Rattle.house.specs.Search.{scan, any, find, count}
@@ -48,6 +47,23 @@ module _ (f : ℕ → Bool) (t n n′ k N : ℕ) (s : t ≡ n + count f k (N - k
   pub uncounted : f k ≡ false → n′ ≡ n → t ≡ n′ + count f (k + 1) (N - (k + 1))
   uncounted e v = omega (arith, s, v, passed f (λ k r. suc r) 0 k N h e)
 
+-- a yes or no kept in a variable, with no way out of the loop: the invariant is `t ≡ (hit || any f k (N - k))`
+module _ (f : ℕ → Bool) (t hit hit′ : Bool) (k N : ℕ) (s : t ≡ (hit || any f k (N - k))) where
+  pub folded : k < N → hit′ ≡ (hit || f k) → t ≡ (hit′ || any f (k + 1) (N - (k + 1)))
+  folded h v = s ∙ rw (next f (λ k r. true) false k N h, v) (regroup hit (f k) _)
+    where
+      regroup : (a b c : Bool) → (a || cond b true c) ≡ ((a || b) || c)
+      regroup true b c = refl
+      regroup false true c = refl
+      regroup false false c = refl
+
+  pub fold-ended : N ≤ k → hit ≡ t
+  fold-ended h = sym (s ∙ rw (ended f (λ k r. true) false k N h) (or-none hit))
+    where
+      or-none : (a : Bool) → (a || false) ≡ a
+      or-none true = refl
+      or-none false = refl
+
 -- Whole searches
 
 -- two tests that agree where the search looks give the same
@@ -66,6 +82,17 @@ module _ (f : ℕ → Bool) where
         | inr y ↦ elim (same i k) [ inl p ↦ rw p y | inr d ↦ any-none (suc k) n (rw y at e) i (omega arith) (omega arith) ]
       ]
 
+  pub any-or : (g : ℕ → Bool) (k n : ℕ) → (any f k n || any g k n) ≡ any (λ i. f i || g i) k n
+  unfolding scan
+  any-or g k zero = refl
+  any-or g k (suc n) = rw (sym (any-or g (suc k) n)) (cases (f k) (g k) (any f (suc k) n) (any g (suc k) n))
+    where
+      cases : (a b r s : Bool) → (cond a true r || cond b true s) ≡ cond (a || b) true (r || s)
+      cases true b r s = refl
+      cases false true true s = refl
+      cases false true false s = refl
+      cases false false r s = refl
+
   pub any-at : (k n i : ℕ) → k ≤ i → i < k + n → f i ≡ true → any f k n ≡ true
   any-at k n i a b y = elim (is (any f k n)) [ inl e ↦ e | inr e ↦ clash y (any-none k n e i a b) ]
 
@@ -77,6 +104,9 @@ module _ (f : ℕ → Bool) where
         | inl y ↦ let d : At k ≡ At p = rw y at e in let i : k ≡ p = cc in (omega arith, omega arith, rw i at y)
         | inr y ↦ let r = find-at (suc k) n p (rw y at e) in (omega arith, omega arith, r .2)
       ]
+
+  pub find-below : (k n p : ℕ) → find f k n ≡ At p → p < k + n
+  find-below k n p e = find-at k n p e .1
 
   pub find-nobody : (k n : ℕ) → find f k n ≡ Nobody → any f k n ≡ false
   unfolding scan
@@ -92,23 +122,3 @@ module _ (f : ℕ → Bool) where
   unfolding scan
   any-find k zero e = clash e refl
   any-find k (suc n) e = elim (is (f k)) [ inl y ↦ (k, rw y) | inr y ↦ let r = any-find (suc k) n (rw y at e) in (r .0, rw y (r .1)) ]
-
--- A search from b on is one from 0 on, moved by b
-
-abbrev pub moved : ℕ → Found → Found
-moved b (At k) = At (b + k)
-moved b Nobody = Nobody
-
-from-j : (f g : ℕ → Bool) (b j n : ℕ) → ((k : ℕ) → k < j + n → f (b + k) ≡ g k) → find f (b + j) n ≡ moved b (find g j n)
-unfolding scan
-from-j f g b j zero e = refl
-from-j f g b j (suc n) e =
-    let s : suc (b + j) ≡ b + suc j = omega arith in
-    let here = e j (omega arith) in
-    elim (is (g j)) [
-      | inl y ↦ rw (here, y)
-      | inr y ↦ rw (here, y, s) (from-j f g b (suc j) n (λ k h. e k (omega arith)))
-    ]
-
-pub find-moved : (f g : ℕ → Bool) (b n : ℕ) → ((k : ℕ) → k < n → f (b + k) ≡ g k) → find f b n ≡ moved b (find g 0 n)
-find-moved f g b n e = rw (add-zero b) at (from-j f g b 0 n (λ k h. e k (omega arith)))

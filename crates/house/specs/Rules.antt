@@ -176,10 +176,8 @@ readBy h me i = withCells h (withMark Read (h .cells) me i)
 
 -- "A transaction that holds the write lock gets the pending value and the committed version plus one. Any other gets the
 -- committed pair."
-unfoldable pub readAnswer : House → ℕ → ℕ → Answer
-readAnswer h me i =
-    let x = itemAt (h .items) i in
-    cond (holds (h .cells) Write me i) (Pair (x .pending) (grown (x .version))) (Pair (x .value) (x .version))
+unfoldable pub readAnswer : List ℕ → Item → ℕ → ℕ → Answer
+readAnswer cells x me i = cond (holds cells Write me i) (Pair (x .pending) (grown (x .version))) (Pair (x .value) (x .version))
 
 -- Write: "the write lock is set and the pending value is the given one, also on a second write"
 unfoldable pub writtenBy : House → ℕ → ℕ → ℕ → House
@@ -243,7 +241,7 @@ outcome h q a = record { house = h; reply = replied q a }
 -- a done request of the transaction at place `me`
 unfoldable pub served : House → Request → ℕ → Outcome
 served h q me =
-    let read′ = outcome (readBy h me (q .item)) q (readAnswer h me (q .item)) in
+    let read′ = outcome (readBy h me (q .item)) q (readAnswer (h .cells) (itemAt (h .items) (q .item)) me (q .item)) in
     let write′ = outcome (writtenBy h me (q .item) (q .value)) q Done in
     let certify′ = outcome (certifiedBy h me) q Done in
     let commit′ = outcome (left (committedItem (h .cells) me) h me) q Done in

@@ -1,11 +1,14 @@
 -- The rulings over what the judge is shown are those of the rules, of every house of which it is shown.
 -- Assumes nothing.
-use Prim.Native.Nat.{ℕ, _+_, _*_, _<_}
+use Prim.Native.Nat.{ℕ, zero, suc, _+_, _*_, _<_}
 use native.Mathlib.Omega.{arith}
+use native.Mathlib.Nat.{add-zero}
 use mathlib.Core.Path.{_≡_, refl, sym, ap, _∙_}
 use mathlib.Core.Logic.{_≢_, inl, inr}
 use mathlib.Core.Bool.{Bool, true, false, cond, _&&_, _||_, not}
-use mathlib.Core.List.{List, [], _∷_}
+use mathlib.Core.List.{List, [], _∷_, _++_}
+use lib.ListN.{getD, replicate}
+use lib.Seq.{getD-append-add}
 use lib.Dec.{eqb, ltb, leb}
 use borrow.Author.Tests.{eq-eqb, ne-eqb, ltb-false, leb-false, not-true}
 use Rattle.house.specs.declared.Found.{Found}
@@ -15,17 +18,18 @@ use Rattle.house.specs.declared.Item.{Item}
 use Rattle.house.specs.declared.Place.{Place}
 use Rattle.house.specs.declared.Request.{Request}
 use Rattle.house.specs.declared.Standing.{Standing}
-use Rattle.house.specs.Search.{find, ifFound, nobody}
-use Rattle.house.specs.House.{itemAt, placeAt, nextAt, freeAt, hasTicket, seek, vacancy}
-use Rattle.house.specs.Rules.{begin, read, write, certify, commit, abort, _does_, asker, noOperation, noLevel, unusedSet, unknown, noItem, forbidden, stopped, untimely, wornOut, crowded, ticketless, conflict, delayed, checks, foremost, verdict, readAnswer, askAnswer}
-use Rattle.house.proofs.Tests.{is, same, and-true, or-right}
+use Rattle.house.specs.Search.{scan, find, ifFound, nobody}
+use Rattle.house.specs.House.{blank, vacant, itemAt, placeAt, nextAt, freeAt, hasTicket, seek, vacancy}
+use Rattle.house.specs.Rules.{begin, read, write, certify, commit, abort, _does_, asker, noOperation, noLevel, unusedSet, unknown, noItem, forbidden, stopped, untimely, wornOut, crowded, ticketless, conflict, delayed, checks, foremost, verdict, askAnswer}
+use Rattle.house.proofs.Tests.{is, same, and-true, or-false, or-right}
 use Rattle.house.proofs.Checks.{numbered}
-use Rattle.house.proofs.Searches.{find-at, moved, find-moved}
+use Rattle.house.proofs.Searches.{find-at}
+use Rattle.house.proofs.Lists.{length-replicate}
 use Rattle.house.specs.declared.Answer.the-variants.{Done, Ticket}
 use Rattle.ruling.specs.declared.Change.the-variants.{Nothing, Begin, Abort}
 use Rattle.ruling.specs.declared.Ruling.{Ruling}
 use Rattle.ruling.specs.Ruling.{refusal, grant, granted, ruled}
-use Rattle.ruling.specs.Judged.{Shown, Judged, beginRuled, readRuled, writeRuled, certifyRuled, commitRuled, knownRuled}
+use Rattle.ruling.specs.Judged.{Shown, Judged, moved, beginRuled, readRuled, writeRuled, certifyRuled, commitRuled, knownRuled}
 
 -- The checks one by one: the ruling of the first that applies, or what is granted
 
@@ -43,12 +47,32 @@ ruled-chain : (h : House) (q : Request) → ruled h q ≡ chain (checks h q) (gr
 unfolding ruled verdict checks
 ruled-chain h q = chained (checks h q) (granted h q) refl
 
+-- A search over the 32 from b on is one over the eight, moved
+
+from-j : (f g : ℕ → Bool) (b j n : ℕ) → ((k : ℕ) → k < j + n → f (b + k) ≡ g k) → find f (b + j) n ≡ moved b (find g j n)
+unfolding scan
+from-j f g b j zero e = refl
+from-j f g b j (suc n) e =
+    let s : suc (b + j) ≡ b + suc j = omega arith in
+    let here = e j (omega arith) in
+    elim (is (g j)) [
+      | inl y ↦ rw (here, y)
+      | inr y ↦ rw (here, y, s) (from-j f g b (suc j) n (λ k h. e k (omega arith)))
+    ]
+
+find-moved : (f g : ℕ → Bool) (b n : ℕ) → ((k : ℕ) → k < n → f (b + k) ≡ g k) → find f b n ≡ moved b (find g 0 n)
+find-moved f g b n e = rw (add-zero b) at (from-j f g b 0 n (λ k h. e k (omega arith)))
+
 -- The first three checks look at the request alone
 
 pub record Formed (q : Request) : Type 0 where
   pub operation : noOperation q ≡ false
   pub level : noLevel q ≡ false
   pub unused : unusedSet q ≡ false
+
+pub level-below : (q : Request) → Formed q → q .level < 4
+unfolding noLevel
+level-below q f = omega (arith, ltb-false 3 (q .level) (f .level))
 
 module _ (h : House) (q : Request) where
   no-operation : noOperation q ≡ true → ruled h q ≡ refusal 3
@@ -100,7 +124,7 @@ module _ (h : House) (q : Request) where
       s = placeAt (h .places) me .standing
 
       read-ruled : q .operation ≡ 1 → ruled h q ≡ readRuled (h .count) x (h .cells) q me s
-      unfolding checks unknown noItem forbidden stopped untimely wornOut crowded ticketless delayed conflict granted readAnswer readRuled
+      unfolding checks unknown noItem forbidden stopped untimely wornOut crowded ticketless delayed conflict granted readRuled
       read-ruled o = ruled-chain h q ∙ simp (f .operation, f .level, f .unused, found, told 1 o 0, told 1 o 1, told 1 o 2, told 1 o 3, told 1 o 4, told 1 o 5)
 
       write-ruled : q .operation ≡ 2 → ruled h q ≡ writeRuled (h .count) x (h .cells) q me s
@@ -149,6 +173,10 @@ module _ (h : House) (q : Request) where
             ]
           ]
 
+-- a row that is there is one of 64
+pub row-there : (count i : ℕ) → (leb count i || leb 64 i) ≡ false → i < 64
+row-there count i e = leb-false 64 i (or-false (leb count i) (leb 64 i) e .1)
+
 -- The row of an item that the house has not is not looked at
 
 module _ (count : ℕ) (x y : Item) (cells : List ℕ) (q : Request) (me : ℕ) (s : Standing) where
@@ -178,9 +206,8 @@ module _ (count : ℕ) (eight : List Place) (t : ℕ) (x : Item) (cells : List �
   judged-5 a b e items all next k = sym (unused-set (house items all next) q a b e)
 
   module _ (f : Formed q) where
-    level : q .level < 4
-    unfolding noLevel
-    level = omega (arith, ltb-false 3 (q .level) (f .level))
+    abbrev level : q .level < 4
+    level = level-below q f
 
     module _ (items : List Item) (all : List Place) (next : List ℕ) (k : Shown items all next q eight t x) where
       seek-eight : seek all (q .level) (q .ticket) ≡ moved (q .level * 8) (find (hasTicket eight (q .ticket)) 0 8)
@@ -206,3 +233,21 @@ module _ (count : ℕ) (eight : List Place) (t : ℕ) (x : Item) (cells : List �
         sym
         (known-ruled (house items all next) q f (q .level * 8 + n) (seek-eight items all next k ∙ rw e) o
         ∙ rw (k .places level n (omega arith)) (row-same count _ _ cells q _ _ (k .item)))
+
+-- Some house shows what the judge is shown, whatever that is; so `Judged` settles the ruling
+
+after : {A : Type 0} (n k : ℕ) (d : A) (l : List A) → getD (replicate n d ++ l) (n + k) d ≡ getD l k d
+after n k d l = rw (length-replicate n d) at (getD-append-add (replicate n d) l k d)
+
+module _ (eight : List Place) (t : ℕ) (x : Item) (q : Request) where
+  witness : Shown (replicate (q .item) blank ++ x ∷ []) (replicate (q .level * 8) vacant ++ eight) (replicate (q .level) 0 ++ t ∷ []) q eight t x
+  witness =
+      record {
+        places = λ b k c. after (q .level * 8) k vacant eight;
+        ticket = λ b. rw (add-zero (q .level)) at (after (q .level) 0 0 (t ∷ []));
+        item = λ b. rw (add-zero (q .item)) at (after (q .item) 0 blank (x ∷ []));
+      }
+
+  pub judged-settles : (count : ℕ) (cells : List ℕ) (r r′ : Ruling) → Judged count eight t x cells q r → Judged count eight t x cells q r′ → r ≡ r′
+  unfolding Judged
+  judged-settles count cells r r′ a b = a _ _ _ witness ∙ sym (b _ _ _ witness)

@@ -6,17 +6,18 @@ use mathlib.Core.Bool.{Bool, not, cond, _||_}
 use mathlib.Core.List.{List}
 use lib.Dec.{eqb, leb}
 use Rattle.house.specs.declared.Answer.{Answer}
-use Rattle.house.specs.declared.Answer.the-variants.{Done, Ticket, Pair}
+use Rattle.house.specs.declared.Answer.the-variants.{Done, Ticket}
 use Rattle.house.specs.declared.Found.{Found}
+use Rattle.house.specs.declared.Found.the-variants.{At, Nobody}
 use Rattle.house.specs.declared.Item.{Item}
 use Rattle.house.specs.declared.Mark.the-variants.{Read, Write, Certify}
 use Rattle.house.specs.declared.Place.{Place}
 use Rattle.house.specs.declared.Request.{Request}
 use Rattle.house.specs.declared.Standing.{Standing}
 use Rattle.house.specs.Search.{any, ifFound}
-use Rattle.house.specs.Cell.{holds, otherHolds, isSignalled}
+use Rattle.house.specs.Cell.{otherHolds, isSignalled}
 use Rattle.house.specs.House.{dominates, itemAt, placeAt, nextAt, isActive, isCertified}
-use Rattle.house.specs.Rules.{read, write, certify, commit, abort, _does_, waitsAt, grown, askAnswer}
+use Rattle.house.specs.Rules.{read, write, certify, commit, abort, _does_, waitsAt, readAnswer, askAnswer}
 use Rattle.ruling.specs.declared.Change.the-variants as Change
 use Rattle.ruling.specs.declared.Ruling.{Ruling}
 use Rattle.ruling.specs.Ruling.{refusal, grant, ruled}
@@ -34,6 +35,11 @@ Judged count eight t x cells q r =
     (items : List Item) (all : List Place) (next : List ℕ) → Shown items all next q eight t x
     → r ≡ ruled (record { count = count; items = items; places = all; next = next; cells = cells }) q
 
+-- a place found among the eight, as one of the 32: the eight start at b
+abbrev pub moved : ℕ → Found → Found
+moved b (At k) = At (b + k)
+moved b Nobody = Nobody
+
 -- Operation by operation, past the checks 3, 4, 5 and 6: x is the row of the item, s the standing of the asker at place `me`
 
 unfoldable pub beginRuled : Found → ℕ → ℕ → Ruling
@@ -47,7 +53,7 @@ readRuled count x cells q me s =
     (cond (isSignalled cells me) (refusal 2)
     (cond (isCertified s) (refusal 9)
     (cond (otherHolds cells Certify me i) (refusal 1)
-    (grant (cond (holds cells Write me i) (Pair (x .pending) (grown (x .version))) (Pair (x .value) (x .version))) (Change.Read me i))))))
+    (grant (readAnswer cells x me i) (Change.Read me i))))))
 
 unfoldable pub writeRuled : ℕ → Item → List ℕ → Request → ℕ → Standing → Ruling
 writeRuled count x cells q me s =

@@ -9,7 +9,7 @@ use Rattle.house.specs.declared.Answer.the-variants.{Refused, Done, Ticket}
 use Rattle.house.specs.declared.House.{House}
 use Rattle.house.specs.declared.Request.{Request}
 use Rattle.house.specs.Search.{ifFound}
-use Rattle.house.specs.House.{nextAt, vacancy}
+use Rattle.house.specs.House.{itemAt, nextAt, vacancy}
 use Rattle.house.specs.Rules.{begin, read, write, certify, commit, abort, _does_, asker, verdict, begun, readBy, readAnswer, writtenBy, certifiedBy, left, committedItem, abortedItem, askAnswer}
 use Rattle.ruling.specs.declared.Change.{Change}
 use Rattle.ruling.specs.declared.Change.the-variants.{Nothing, Begin, Read, Write, Certify, Commit, Abort}
@@ -51,7 +51,7 @@ granted h q =
     cond (q does begin) (ifFound (vacancy (h .places) (q .level)) (λ me. grant (Ticket (nextAt (h .next) (q .level))) (Begin (q .level) me)) (refusal 11))
     (ifFound (asker h q)
     (λ me.
-    cond (q does read) (grant (readAnswer h me (q .item)) (Read me (q .item)))
+    cond (q does read) (grant (readAnswer (h .cells) (itemAt (h .items) (q .item)) me (q .item)) (Read me (q .item)))
     (cond (q does write) (grant Done (Write me (q .item) (q .value)))
     (cond (q does certify) (grant Done (Certify me))
     (cond (q does commit) (grant Done (Commit me))

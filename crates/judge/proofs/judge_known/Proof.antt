@@ -1,0 +1,60 @@
+use borrow.Author.Needs.{needs}
+use borrow.Author.Tests.{ne-eqb}
+use Rattle.ruling.specs.Judged.{knownRuled}
+use Rattle.judge.proofs.judge_known.Statement.{statement}
+use Rattle.judge.proofs.judge_known.Tie as tie
+
+judge-read-requires : tie.Need-judge-read-requires
+judge-read-requires c κs = search needs
+
+judge-write-requires : tie.Need-judge-write-requires
+judge-write-requires c κs = search needs
+
+judge-certify-requires : tie.Need-judge-certify-requires
+judge-certify-requires c κs = search needs
+
+judge-commit-requires : tie.Need-judge-commit-requires
+judge-commit-requires c κs = search needs
+
+answer-ask-requires : tie.Need-answer-ask-requires
+answer-ask-requires c κs = search needs
+
+returns : tie.Need-returns
+unfolding knownRuled
+returns c = simp (knownRuled, c .before .match .keys1, c .judge-read .ensures)
+
+returns-2 : tie.Need-returns-2
+unfolding knownRuled
+returns-2 c = simp (knownRuled, c .before .match .keys2, c .judge-write .ensures)
+
+returns-3 : tie.Need-returns-3
+unfolding knownRuled
+returns-3 c = simp (knownRuled, c .before .match .keys3, c .judge-certify .ensures)
+
+returns-4 : tie.Need-returns-4
+unfolding knownRuled
+returns-4 c = simp (knownRuled, c .before .match .keys4, c .judge-commit .ensures)
+
+returns-5 : tie.Need-returns-5
+unfolding knownRuled
+returns-5 c = simp (knownRuled, c .match .keys5)
+
+returns-6 : tie.Need-returns-6
+unfolding knownRuled
+returns-6 c = simp (knownRuled, ne-eqb _ _ (c .before .match .rest .1), ne-eqb _ _ (c .before .match .rest .0 .1), ne-eqb _ _ (c .before .match .rest .0 .0 .1), ne-eqb _ _ (c .before .match .rest .0 .0 .0 .1), ne-eqb _ _ (c .before .match .rest .0 .0 .0 .0 .1), c .answer-ask .ensures)
+
+pub judge-known-spec : {M : Type 1} → statement M
+judge-known-spec =
+    tie.close
+    (tie.spec
+    judge-read-requires
+    judge-write-requires
+    judge-certify-requires
+    judge-commit-requires
+    answer-ask-requires
+    returns
+    returns-2
+    returns-3
+    returns-4
+    returns-5
+    returns-6)

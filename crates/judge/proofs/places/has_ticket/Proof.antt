@@ -1,0 +1,20 @@
+use borrow.Author.Needs.{needs}
+use Rattle.house.specs.House.{hasTicket}
+use Rattle.judge.proofs.places.has_ticket.Statement.{statement}
+use Rattle.judge.proofs.places.has_ticket.Tie as tie
+
+mul-place : tie.Need-mul-place
+mul-place c = search needs
+
+array-copy-out-place : tie.Need-array-copy-out-place
+array-copy-out-place c = search needs
+
+free-at-requires : tie.Need-free-at-requires
+free-at-requires c κs = search needs
+
+returns : tie.Need-returns
+unfolding hasTicket
+returns c = rw (c .before .free-at .ensures)
+
+pub has-ticket-spec : {M : Type 1} → statement M
+has-ticket-spec = tie.close (tie.spec mul-place array-copy-out-place free-at-requires returns)

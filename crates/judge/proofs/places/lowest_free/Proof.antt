@@ -1,0 +1,50 @@
+use Prim.Native.Nat.{_-_}
+use native.Mathlib.Omega.{arith}
+use mathlib.Core.Path.{_≡_, refl, sym, _∙_}
+use borrow.Author.Needs.{needs}
+use Rattle.house.proofs.Searches.{passed, met, ended}
+use Rattle.house.specs.House.{freeAt}
+use Rattle.house.specs.Search.{find}
+use Rattle.judge.proofs.places.lowest_free.Statement.{statement}
+use Rattle.judge.proofs.places.lowest_free.Tie as tie
+
+abbrev Inv-loop : tie.InvT-loop
+Inv-loop eight k₀ k = find (freeAt eight) 0 8 ≡ find (freeAt eight) k (8 - k)
+
+abbrev μ-loop : tie.MeasureT-loop
+μ-loop eight k₀ k = 8 - k
+
+loop-holds : tie.Need-loop-holds Inv-loop μ-loop
+loop-holds c = refl
+
+free-at-requires : tie.Need-free-at-requires Inv-loop μ-loop
+free-at-requires c κs = search needs
+
+returns : tie.Need-returns Inv-loop μ-loop
+returns c = sym (c .before .before .before .loop .inv ∙ met _ _ _ _ _ (omega arith) (sym (c .before .free-at .ensures) ∙ c .if1 .taken))
+
+add-k : tie.Need-add-k Inv-loop μ-loop
+add-k c = search needs
+
+loop-less : tie.Need-loop-less Inv-loop μ-loop
+loop-less c = search needs
+
+loop-again : tie.Need-loop-again Inv-loop μ-loop
+loop-again c = c .before .before .before .loop .inv ∙ passed _ _ _ _ _ (omega arith) (sym (c .before .free-at .ensures) ∙ c .if1 .left)
+
+returns-2 : tie.Need-returns-2 Inv-loop μ-loop
+returns-2 c = sym (c .before .loop .inv ∙ ended _ _ _ _ _ (omega arith))
+
+pub lowest-free-spec : {M : Type 1} → statement M
+lowest-free-spec =
+    tie.close
+    (tie.spec
+    Inv-loop
+    μ-loop
+    loop-holds
+    free-at-requires
+    returns
+    add-k
+    loop-less
+    loop-again
+    returns-2)

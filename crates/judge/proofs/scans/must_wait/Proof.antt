@@ -1,0 +1,50 @@
+use Prim.Native.Nat.{_-_}
+use native.Mathlib.Omega.{arith}
+use mathlib.Core.Path.{_≡_, refl, sym, _∙_}
+use borrow.Author.Needs.{needs}
+use Rattle.house.proofs.Searches.{passed, met, ended}
+use Rattle.house.specs.Rules.{waitsAt}
+use Rattle.house.specs.Search.{any}
+use Rattle.judge.proofs.scans.must_wait.Statement.{statement}
+use Rattle.judge.proofs.scans.must_wait.Tie as tie
+
+abbrev Inv-loop : tie.InvT-loop
+Inv-loop cells me i₀ i = any (waitsAt cells me) 0 64 ≡ any (waitsAt cells me) i (64 - i)
+
+abbrev μ-loop : tie.MeasureT-loop
+μ-loop cells me i₀ i = 64 - i
+
+loop-holds : tie.Need-loop-holds Inv-loop μ-loop
+loop-holds c = refl
+
+waits-at-requires : tie.Need-waits-at-requires Inv-loop μ-loop
+waits-at-requires c κs = search needs
+
+returns : tie.Need-returns Inv-loop μ-loop
+returns c = sym (c .before .before .before .loop .inv ∙ met _ _ _ _ _ (omega arith) (sym (c .before .waits-at .ensures) ∙ c .if1 .taken))
+
+add-i : tie.Need-add-i Inv-loop μ-loop
+add-i c = search needs
+
+loop-less : tie.Need-loop-less Inv-loop μ-loop
+loop-less c = search needs
+
+loop-again : tie.Need-loop-again Inv-loop μ-loop
+loop-again c = c .before .before .before .loop .inv ∙ passed _ _ _ _ _ (omega arith) (sym (c .before .waits-at .ensures) ∙ c .if1 .left)
+
+returns-2 : tie.Need-returns-2 Inv-loop μ-loop
+returns-2 c = sym (c .before .loop .inv ∙ ended _ _ _ _ _ (omega arith))
+
+pub must-wait-spec : {M : Type 1} → statement M
+must-wait-spec =
+    tie.close
+    (tie.spec
+    Inv-loop
+    μ-loop
+    loop-holds
+    waits-at-requires
+    returns
+    add-i
+    loop-less
+    loop-again
+    returns-2)

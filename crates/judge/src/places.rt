@@ -1,0 +1,84 @@
+// The searches over the eight places of one level.
+
+ghost use mathlib.Core.Path.{_≡_};
+ghost use Prim.Native.Nat.{_<_};
+ghost use Rattle.house.specs.Search.{find};
+ghost use Rattle.house.specs.House.{isFree, isActive, isCertified, freeAt, hasTicket};
+use house::Found;
+use house::Place;
+use house::Standing;
+
+fn is_free(s: Standing) -> bool
+    ensures { λ r. ⌜ r ≡ isFree s ⌝ }
+{
+    match s {
+        Standing::Free => true,
+        Standing::Active => false,
+        Standing::Certified => false,
+    }
+}
+
+pub(crate) fn is_active(s: Standing) -> bool
+    ensures { λ r. ⌜ r ≡ isActive s ⌝ }
+{
+    match s {
+        Standing::Free => false,
+        Standing::Active => true,
+        Standing::Certified => false,
+    }
+}
+
+pub(crate) fn is_certified(s: Standing) -> bool
+    ensures { λ r. ⌜ r ≡ isCertified s ⌝ }
+{
+    match s {
+        Standing::Free => false,
+        Standing::Active => false,
+        Standing::Certified => true,
+    }
+}
+
+fn free_at(eight: [Place; 8], k: usize) -> bool
+    requires { ⌜ k < 8 ⌝ }
+    ensures { λ r. ⌜ r ≡ freeAt eight k ⌝ }
+{
+    let place = eight[k];
+    let standing = place.standing;
+    is_free(standing)
+}
+
+fn has_ticket(eight: [Place; 8], ticket: u32, k: usize) -> bool
+    requires { ⌜ k < 8 ⌝ }
+    ensures { λ r. ⌜ r ≡ hasTicket eight ticket k ⌝ }
+{
+    let place = eight[k];
+    !free_at(eight, k) & (place.ticket == ticket)
+}
+
+// The search stops at the place found.
+pub(crate) fn lookup(eight: [Place; 8], ticket: u32) -> Found
+    ensures { λ r. ⌜ r ≡ find (hasTicket eight ticket) 0 8 ⌝ }
+{
+    let mut k = 0;
+    let place = loop {
+        if k == 8 {
+            return Found::Nobody;
+        }
+        if has_ticket(eight, ticket, k) {
+            break k;
+        }
+        k += 1;
+    };
+    Found::At(place)
+}
+
+pub(crate) fn lowest_free(eight: [Place; 8]) -> Found
+    ensures { λ r. ⌜ r ≡ find (freeAt eight) 0 8 ⌝ }
+{
+    for k in 0..8 {
+        if free_at(eight, k) {
+            return Found::At(k);
+        }
+    }
+    Found::Nobody
+}

@@ -1,0 +1,124 @@
+// The searches over the lock cells. A scan that only says yes or no goes to its end: without a way out of its loop it is
+// compiled to a few wide instructions.
+
+ghost use mathlib.Core.Path.{_≡_};
+ghost use mathlib.Core.Bool.{_||_};
+ghost use Prim.Native.Nat.{_<_};
+ghost use Rattle.house.specs.Search.{any};
+ghost use Rattle.house.specs.Cell.{holds, anotherHolds, otherHolds, peerHolds, isSignalled, firstSignalled, countSignalled};
+ghost use Rattle.house.specs.Rules.{waitsAt};
+ghost use Rattle.house.specs.declared.Mark.the-variants.{Write, Certify};
+use house::Found;
+use house::Mark;
+use marks::has_mark;
+
+pub(crate) fn holds_mark(cells: &[u8; 2048], m: Mark, p: usize, i: usize) -> bool
+    requires { ⌜ (p < 32) × (i < 64) ⌝ }
+    ensures { λ r. ⌜ r ≡ holds (now (cells .entry)) m p i ⌝ }
+{
+    has_mark(m, cells[p * 64 + i])
+}
+
+fn another_holds(cells: &[u8; 2048], m: Mark, me: usize, i: usize, p: usize) -> bool
+    requires { ⌜ (p < 32) × (i < 64) ⌝ }
+    ensures { λ r. ⌜ r ≡ anotherHolds (now (cells .entry)) m me i p ⌝ }
+{
+    (p != me) & holds_mark(cells, m, p, i)
+}
+
+pub(crate) fn other_holds(cells: &[u8; 2048], m: Mark, me: usize, i: usize) -> bool
+    requires { ⌜ i < 64 ⌝ }
+    ensures { λ r. ⌜ r ≡ otherHolds (now (cells .entry)) m me i ⌝ }
+{
+    let mut hit = false;
+    for p in 0..32 {
+        hit = hit | another_holds(cells, m, me, i, p);
+    }
+    hit
+}
+
+fn another_claims(cells: &[u8; 2048], me: usize, i: usize, p: usize) -> bool
+    requires { ⌜ (p < 32) × (i < 64) ⌝ }
+    ensures { λ r. ⌜ r ≡ (anotherHolds (now (cells .entry)) Write me i p || anotherHolds (now (cells .entry)) Certify me i p) ⌝ }
+{
+    another_holds(cells, Mark::Write, me, i, p) | another_holds(cells, Mark::Certify, me, i, p)
+}
+
+// Write and certify in one sweep.
+pub(crate) fn other_claims(cells: &[u8; 2048], me: usize, i: usize) -> bool
+    requires { ⌜ i < 64 ⌝ }
+    ensures { λ r. ⌜ r ≡ (otherHolds (now (cells .entry)) Write me i || otherHolds (now (cells .entry)) Certify me i) ⌝ }
+{
+    let mut hit = false;
+    for p in 0..32 {
+        hit = hit | another_claims(cells, me, i, p);
+    }
+    hit
+}
+
+fn peer_holds(cells: &[u8; 2048], m: Mark, me: usize, i: usize) -> bool
+    requires { ⌜ (me < 32) × (i < 64) ⌝ }
+    ensures { λ r. ⌜ r ≡ peerHolds (now (cells .entry)) m me i ⌝ }
+{
+    let from = me / 8 * 8;
+    let mut hit = false;
+    for p in from..from + 8 {
+        hit = hit | another_holds(cells, m, me, i, p);
+    }
+    hit
+}
+
+fn waits_at(cells: &[u8; 2048], me: usize, i: usize) -> bool
+    requires { ⌜ (me < 32) × (i < 64) ⌝ }
+    ensures { λ r. ⌜ r ≡ waitsAt (now (cells .entry)) me i ⌝ }
+{
+    holds_mark(cells, Mark::Write, me, i) && peer_holds(cells, Mark::Read, me, i)
+}
+
+pub(crate) fn must_wait(cells: &[u8; 2048], me: usize) -> bool
+    requires { ⌜ me < 32 ⌝ }
+    ensures { λ r. ⌜ r ≡ any (waitsAt (now (cells .entry)) me) 0 64 ⌝ }
+{
+    for i in 0..64 {
+        if waits_at(cells, me, i) {
+            return true;
+        }
+    }
+    false
+}
+
+pub(crate) fn is_signalled(cells: &[u8; 2048], me: usize) -> bool
+    requires { ⌜ me < 32 ⌝ }
+    ensures { λ r. ⌜ r ≡ isSignalled (now (cells .entry)) me ⌝ }
+{
+    let mut hit = false;
+    for i in 0..64 {
+        hit = hit | holds_mark(cells, Mark::Signalled, me, i);
+    }
+    hit
+}
+
+pub(crate) fn first_signalled(cells: &[u8; 2048], me: usize) -> Found
+    requires { ⌜ me < 32 ⌝ }
+    ensures { λ r. ⌜ r ≡ firstSignalled (now (cells .entry)) me ⌝ }
+{
+    for i in 0..64 {
+        if holds_mark(cells, Mark::Signalled, me, i) {
+            return Found::At(i);
+        }
+    }
+    Found::Nobody
+}
+
+pub(crate) fn count_signalled(cells: &[u8; 2048], me: usize) -> u32
+    requires { ⌜ me < 32 ⌝ }
+    ensures { λ r. ⌜ r ≡ countSignalled (now (cells .entry)) me ⌝ }
+{
+    let mut n = 0;
+    for i in 0..64 {
+        if holds_mark(cells, Mark::Signalled, me, i) {
+            n += 1;
+        }
+    }
+    n
+}
