@@ -72,6 +72,18 @@ module _ {A : Type 0} (d : A) (key : ℕ → ℕ) (f : ℕ → A → A) where
       there : (n : ℕ) → n < length l → key n < i + 1 → n ≢ j → getD (set out j v) n d ≡ f n (getD l n d)
       there n h k ne = getD-set-other out j n v d ne ∙ elim (same (key n) i) [ inl e ↦ s .rest n h (omega arith) ∙ sym (kept n h e ne) | inr nk ↦ s .done n h (omega arith) ]
 
+  -- a round that sends all elements of that key through f, and no other
+  pub sofar-map : (i : ℕ) (g : ℕ → A → A) {l out : List A} → Sofar d key f i l out → ((n : ℕ) (x : A) → key n ≡ i → g n x ≡ f n x) → ((n : ℕ) (x : A) → key n ≢ i → g n x ≡ x) → Sofar d key f (i + 1) l (mapFrom 0 g out)
+  sofar-map i g {l} {out} s here there =
+      record {
+        long = length-mapFrom 0 g out ∙ s .long;
+        done = λ n h k. at n h ∙ elim (same (key n) i) [ inl e ↦ here n _ e ∙ ap (f n) (s .rest n h (omega arith)) | inr ne ↦ there n _ ne ∙ s .done n h (omega arith) ];
+        rest = λ n h k. at n h ∙ there n _ (λ e. omega arith) ∙ s .rest n h (omega arith);
+      }
+    where
+      at : (n : ℕ) → n < length l → getD (mapFrom 0 g out) n d ≡ g n (getD out n d)
+      at n h = getD-mapFrom g out n d (omega (arith, s .long))
+
   pub sofar-all : (N : ℕ) {l out : List A} → Sofar d key f N l out → ((n : ℕ) → n < length l → key n < N) → out ≡ mapFrom 0 f l
   sofar-all N {l} {out} s all =
       ext-getD d out (mapFrom 0 f l) (s .long ∙ sym (length-mapFrom 0 f l))

@@ -10,7 +10,7 @@ ghost use Prim.Native.Nat.{_+_, _*_, _<_};
 ghost use lib.Dec.{leb};
 ghost use Rattle.house.specs.Search.{find};
 ghost use Rattle.house.specs.House.{dominates, freeAt};
-ghost use Rattle.house.specs.Rules.{noOperation, noLevel, unusedSet, grown, readAnswer, askAnswer};
+ghost use Rattle.house.specs.Rules.{noOperation, noLevel, unusedSet, readAnswer, askAnswer};
 ghost use Rattle.ruling.specs.Ruling.{refusal};
 ghost use Rattle.ruling.specs.Judged.{Judged, moved, beginRuled, readRuled, writeRuled, certifyRuled, commitRuled, knownRuled};
 use house::Answer;
@@ -20,6 +20,7 @@ use house::Mark;
 use house::Place;
 use house::Request;
 use house::Standing;
+use parts::grow;
 use places::is_active;
 use places::is_certified;
 use places::lookup;
@@ -74,16 +75,6 @@ fn does_not_dominate(level: u8, item: u8) -> bool
     ensures { λ r. ⌜ r ≡ not (dominates level item) ⌝ }
 {
     !(item <= level)
-}
-
-fn grow(version: u32) -> u32
-    ensures { λ r. ⌜ r ≡ grown version ⌝ }
-{
-    if version < 4294967295 {
-        version + 1
-    } else {
-        version
-    }
 }
 
 fn answer_read(cells: &[u8; 2048], x: Item, me: usize, i: usize) -> Answer

@@ -10,7 +10,7 @@ ghost use Rattle.house.specs.Rules.{waitsAt};
 ghost use Rattle.house.specs.declared.Mark.the-variants.{Write, Certify};
 use house::Found;
 use house::Mark;
-use marks::has_mark;
+use parts::has_mark;
 
 pub(crate) fn holds_mark(cells: &[u8; 2048], m: Mark, p: usize, i: usize) -> bool
     requires { ⌜ (p < 32) × (i < 64) ⌝ }

@@ -21,7 +21,7 @@ use Rattle.ruling.specs.declared.Ruling.{Ruling}
 use Rattle.ruling.specs.Ruling.{effect, fits, changed, granted, ruled}
 
 -- a change that fits is made
-made : (h : House) (c : Change) → fits c ≡ true → changed h c ≡ effect h c
+pub made : (h : House) (c : Change) → fits c ≡ true → changed h c ≡ effect h c
 unfolding changed
 made h c e = rw e
 
