@@ -1,10 +1,13 @@
-// What is done with single parts of a house: the marks of one lock cell, a version, a ticket.
+// What is done with single parts of a house: the marks of one lock cell, a version, a ticket; and the reply to a request.
 // One function serves all four marks; above this crate nobody divides.
 
 ghost use mathlib.Core.Path.{_≡_};
 ghost use Rattle.house.specs.Cell.{weight, has, marked, unmarked};
-ghost use Rattle.house.specs.Rules.{grown, ticketAfter};
+ghost use Rattle.house.specs.Rules.{grown, ticketAfter, said, replied};
+use house::Answer;
 use house::Mark;
+use house::Reply;
+use house::Request;
 
 fn weigh(m: Mark) -> u8
     ensures { λ r. ⌜ r ≡ weight m ⌝ }
@@ -49,4 +52,29 @@ pub fn next_ticket(ticket: u32) -> u32
     ensures { λ r. ⌜ r ≡ ticketAfter ticket ⌝ }
 {
     if ticket < 4294967295 { ticket + 1 } else { 0 }
+}
+
+fn say(q: Request, number: u8, item: u16, ticket: u32, value: u32, version: u32) -> Reply
+    ensures { λ r. ⌜ r ≡ said q number item ticket value version ⌝ }
+{
+    Reply {
+        number,
+        operation: q.operation,
+        item,
+        ticket,
+        value,
+        version,
+    }
+}
+
+pub fn reply_to(q: Request, answer: Answer) -> Reply
+    ensures { λ r. ⌜ r ≡ replied q answer ⌝ }
+{
+    match answer {
+        Answer::Refused(number) => say(q, number, q.item, q.ticket, 0, 0),
+        Answer::Done => say(q, 0, q.item, q.ticket, 0, 0),
+        Answer::Ticket(ticket) => say(q, 0, q.item, ticket, 0, 0),
+        Answer::Pair(value, version) => say(q, 0, q.item, q.ticket, value, version),
+        Answer::Signals(item, count) => say(q, 0, item, q.ticket, count, 0),
+    }
 }

@@ -1,8 +1,8 @@
 -- The rulings over what the judge is shown are those of the rules, of every house of which it is shown.
 -- Assumes nothing.
-use Prim.Native.Nat.{ℕ, zero, suc, _+_, _*_, _<_}
+use Prim.Native.Nat.{ℕ, zero, suc, _+_, _*_, _%_, _<_}
 use native.Mathlib.Omega.{arith}
-use native.Mathlib.Nat.{add-zero}
+use native.Mathlib.Nat.{add-zero, mod-eq-of-lt}
 use mathlib.Core.Path.{_≡_, refl, sym, ap, _∙_}
 use mathlib.Core.Logic.{_≢_, inl, inr}
 use mathlib.Core.Bool.{Bool, true, false, cond, _&&_, _||_, not}
@@ -251,3 +251,28 @@ module _ (eight : List Place) (t : ℕ) (x : Item) (q : Request) where
   pub judged-settles : (count : ℕ) (cells : List ℕ) (r r′ : Ruling) → Judged count eight t x cells q r → Judged count eight t x cells q r′ → r ≡ r′
   unfolding Judged
   judged-settles count cells r r′ a b = a _ _ _ witness ∙ sym (b _ _ _ witness)
+
+-- What a function that has the house shows of it. A level or an item that the house has not is shown as another; the judge
+-- looks at neither
+
+abbrev pub eightOf : List Place → ℕ → List Place
+eightOf all b = placeAt all b ∷ placeAt all (b + 1) ∷ placeAt all (b + 2) ∷ placeAt all (b + 3) ∷ placeAt all (b + 4) ∷ placeAt all (b + 5) ∷ placeAt all (b + 6) ∷ placeAt all (b + 7) ∷ []
+
+eight-at : (all : List Place) (b k : ℕ) → k < 8 → placeAt all (b + k) ≡ placeAt (eightOf all b) k
+eight-at all b zero h = rw (add-zero b)
+eight-at all b (suc zero) h = refl
+eight-at all b (suc (suc zero)) h = refl
+eight-at all b (suc (suc (suc zero))) h = refl
+eight-at all b (suc (suc (suc (suc zero)))) h = refl
+eight-at all b (suc (suc (suc (suc (suc zero))))) h = refl
+eight-at all b (suc (suc (suc (suc (suc (suc zero)))))) h = refl
+eight-at all b (suc (suc (suc (suc (suc (suc (suc zero))))))) h = refl
+eight-at all b (suc (suc (suc (suc (suc (suc (suc (suc k)))))))) h = absurd (omega arith)
+
+pub shows : (items : List Item) (all : List Place) (next : List ℕ) (q : Request) → Shown items all next q (eightOf all (q .level % 4 * 8)) (nextAt next (q .level % 4)) (itemAt items (q .item % 64))
+shows items all next q =
+    record {
+      places = λ b k c. eight-at all (q .level * 8) k c ∙ ap (λ l. placeAt (eightOf all (l * 8)) k) (sym (mod-eq-of-lt b));
+      ticket = λ b. let e : q .level % 4 ≡ q .level = mod-eq-of-lt b in rw e;
+      item = λ b. let e : q .item % 64 ≡ q .item = mod-eq-of-lt b in rw e;
+    }

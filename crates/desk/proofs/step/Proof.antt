@@ -1,0 +1,163 @@
+use mathlib.Core.Path.{_≡_, sym}
+use borrow.Author.Needs.{needs}
+use Rattle.ruling.proofs.Judged.{shows}
+use Rattle.ruling.proofs.Steps.{ruled-steps}
+use Rattle.ruling.specs.Judged.{Judged}
+use Rattle.ruling.specs.Ruling.{changed, ruled}
+use Rattle.desk.proofs.step.Statement.{statement}
+use Rattle.desk.proofs.step.Tie as tie
+
+-- the judge was shown this house
+ruling : (c : tie.After-judge) → ruled (c .before .before .before .before .before .before .before .before .before .before .before .before .before .before .before .args .t1) (c .before .before .before .before .before .before .before .before .before .before .before .before .before .before .before .args .q) ≡ c .judge .result
+unfolding Judged
+ruling c = sym (c .judge .ensures _ _ _ (shows (c .before .before .before .before .before .before .before .before .before .before .before .before .before .before .before .args .t1 .items) (c .before .before .before .before .before .before .before .before .before .before .before .before .before .before .before .args .t1 .places) (c .before .before .before .before .before .before .before .before .before .before .before .before .before .before .before .args .t1 .next) (c .before .before .before .before .before .before .before .before .before .before .before .before .before .before .before .args .q)))
+
+cast-level : tie.Need-cast-level
+cast-level c = search needs
+
+mul-ticket : tie.Need-mul-ticket
+mul-ticket c = search needs
+
+element-copy-out-ticket : tie.Need-element-copy-out-ticket
+element-copy-out-ticket c = search needs
+
+cast-item : tie.Need-cast-item
+cast-item c = search needs
+
+mul-x : tie.Need-mul-x
+mul-x c = search needs
+
+element-copy-out-x : tie.Need-element-copy-out-x
+element-copy-out-x c = search needs
+
+mul-b : tie.Need-mul-b
+mul-b c = search needs
+
+mul-p0 : tie.Need-mul-p0
+mul-p0 c = search needs
+
+element-copy-out-p0 : tie.Need-element-copy-out-p0
+element-copy-out-p0 c = search needs
+
+add-p1 : tie.Need-add-p1
+add-p1 c = search needs
+
+mul-p1 : tie.Need-mul-p1
+mul-p1 c = search needs
+
+element-copy-out-p1 : tie.Need-element-copy-out-p1
+element-copy-out-p1 c = search needs
+
+add-p2 : tie.Need-add-p2
+add-p2 c = search needs
+
+mul-p2 : tie.Need-mul-p2
+mul-p2 c = search needs
+
+element-copy-out-p2 : tie.Need-element-copy-out-p2
+element-copy-out-p2 c = search needs
+
+add-p3 : tie.Need-add-p3
+add-p3 c = search needs
+
+mul-p3 : tie.Need-mul-p3
+mul-p3 c = search needs
+
+element-copy-out-p3 : tie.Need-element-copy-out-p3
+element-copy-out-p3 c = search needs
+
+add-p4 : tie.Need-add-p4
+add-p4 c = search needs
+
+mul-p4 : tie.Need-mul-p4
+mul-p4 c = search needs
+
+element-copy-out-p4 : tie.Need-element-copy-out-p4
+element-copy-out-p4 c = search needs
+
+add-p5 : tie.Need-add-p5
+add-p5 c = search needs
+
+mul-p5 : tie.Need-mul-p5
+mul-p5 c = search needs
+
+element-copy-out-p5 : tie.Need-element-copy-out-p5
+element-copy-out-p5 c = search needs
+
+add-p6 : tie.Need-add-p6
+add-p6 c = search needs
+
+mul-p6 : tie.Need-mul-p6
+mul-p6 c = search needs
+
+element-copy-out-p6 : tie.Need-element-copy-out-p6
+element-copy-out-p6 c = search needs
+
+add-p7 : tie.Need-add-p7
+add-p7 c = search needs
+
+mul-p7 : tie.Need-mul-p7
+mul-p7 c = search needs
+
+element-copy-out-p7 : tie.Need-element-copy-out-p7
+element-copy-out-p7 c = search needs
+
+judge-requires : tie.Need-judge-requires
+judge-requires c κs = search needs
+
+reply-to-requires : tie.Need-reply-to-requires
+reply-to-requires c κs = search needs
+
+enum-told : tie.Need-enum-told
+enum-told c = search needs
+
+returns : tie.Need-returns
+unfolding changed
+returns c = rw (ruled-steps, ruling (c .before .before .before), c .enum-told .given .1, c .before .before .reply-to .ensures)
+
+perform-requires : tie.Need-perform-requires
+perform-requires c κs = search needs
+
+returns-2 : tie.Need-returns-2
+returns-2 c = rw (ruled-steps, ruling (c .before .before .before), c .perform .ensures, c .before .before .reply-to .ensures)
+
+pub step-spec : {M : Type 1} → statement M
+step-spec =
+    tie.close
+    (tie.spec
+    cast-level
+    mul-ticket
+    element-copy-out-ticket
+    cast-item
+    mul-x
+    element-copy-out-x
+    mul-b
+    mul-p0
+    element-copy-out-p0
+    add-p1
+    mul-p1
+    element-copy-out-p1
+    add-p2
+    mul-p2
+    element-copy-out-p2
+    add-p3
+    mul-p3
+    element-copy-out-p3
+    add-p4
+    mul-p4
+    element-copy-out-p4
+    add-p5
+    mul-p5
+    element-copy-out-p5
+    add-p6
+    mul-p6
+    element-copy-out-p6
+    add-p7
+    mul-p7
+    element-copy-out-p7
+    judge-requires
+    reply-to-requires
+    enum-told
+    returns
+    perform-requires
+    returns-2)

@@ -1,0 +1,40 @@
+// The desk: one request, by value. It judges first, over parts of the house; the house is handed over for a change only,
+// so a refusal or a delay hands back the house untouched.
+
+ghost use mathlib.Core.Path.{_≡_};
+ghost use Rattle.house.specs.Rules.{stepped};
+use house::House;
+use house::Outcome;
+use house::Request;
+use judge::judge;
+use parts::reply_to;
+use perform::perform;
+use ruling::Change;
+
+pub fn step(h: House, q: Request) -> Outcome
+    ensures { λ r. ⌜ r ≡ stepped h q ⌝ }
+{
+    let level = (q.level % 4) as usize;
+    let ticket = h.next[level];
+    let item = (q.item % 64) as usize;
+    let x = h.items[item];
+    let b = level * 8;
+    let p0 = h.places[b];
+    let p1 = h.places[b + 1];
+    let p2 = h.places[b + 2];
+    let p3 = h.places[b + 3];
+    let p4 = h.places[b + 4];
+    let p5 = h.places[b + 5];
+    let p6 = h.places[b + 6];
+    let p7 = h.places[b + 7];
+    let eight = [p0, p1, p2, p3, p4, p5, p6, p7];
+    let ruling = judge(h.count, eight, ticket, x, &h.cells, q);
+    let answer = ruling.answer;
+    let reply = reply_to(q, answer);
+    let change = ruling.change;
+    if let Change::Nothing = change {
+        return Outcome { house: h, reply };
+    }
+    let house = perform(h, change);
+    Outcome { house, reply }
+}

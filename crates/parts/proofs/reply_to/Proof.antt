@@ -1,0 +1,70 @@
+use mathlib.Core.Path.{sym, ap, _∙_}
+use borrow.Author.Needs.{needs}
+use Rattle.house.specs.Rules.{replied}
+use Rattle.parts.proofs.reply_to.Statement.{statement}
+use Rattle.parts.proofs.reply_to.Tie as tie
+
+enum-known-answer : tie.Need-enum-known-answer
+enum-known-answer c = search needs
+
+say-requires : tie.Need-say-requires
+say-requires c κs = search needs
+
+enum-told : tie.Need-enum-told
+enum-told c = search needs
+
+say-requires-2 : tie.Need-say-requires-2
+say-requires-2 c κs = search needs
+
+enum-known-answer-2 : tie.Need-enum-known-answer-2
+enum-known-answer-2 c = search needs
+
+say-requires-3 : tie.Need-say-requires-3
+say-requires-3 c κs = search needs
+
+enum-known-answer-3 : tie.Need-enum-known-answer-3
+enum-known-answer-3 c = search needs
+
+say-requires-4 : tie.Need-say-requires-4
+say-requires-4 c κs = search needs
+
+enum-known-answer-4 : tie.Need-enum-known-answer-4
+enum-known-answer-4 c = search needs
+
+say-requires-5 : tie.Need-say-requires-5
+say-requires-5 c κs = search needs
+
+returns : tie.Need-returns
+returns c = c .say .ensures ∙ sym (ap (replied _) (c .before .before .answer .given .1))
+
+returns-2 : tie.Need-returns-2
+returns-2 c = c .say2 .ensures ∙ sym (ap (replied _) (c .before .enum-told .given .1))
+
+returns-3 : tie.Need-returns-3
+returns-3 c = c .say3 .ensures ∙ sym (ap (replied _) (c .before .before .answer2 .given .1))
+
+returns-4 : tie.Need-returns-4
+returns-4 c = c .say4 .ensures ∙ sym (ap (replied _) (c .before .before .answer3 .given .1))
+
+returns-5 : tie.Need-returns-5
+returns-5 c = c .say5 .ensures ∙ sym (ap (replied _) (c .before .before .answer4 .given .1))
+
+pub reply-to-spec : {M : Type 1} → statement M
+reply-to-spec =
+    tie.close
+    (tie.spec
+    enum-known-answer
+    say-requires
+    enum-told
+    say-requires-2
+    enum-known-answer-2
+    say-requires-3
+    enum-known-answer-3
+    say-requires-4
+    enum-known-answer-4
+    say-requires-5
+    returns
+    returns-2
+    returns-3
+    returns-4
+    returns-5)
