@@ -30,6 +30,14 @@ pub and-right-false : (a b : Bool) → a ≡ true → (a && b) ≡ false → b �
 and-right-false true b p e = e
 and-right-false false b p e = clash p refl
 
+pub and-yes : (a : Bool) → (a && true) ≡ a
+and-yes true = refl
+and-yes false = refl
+
+pub and-no : (a : Bool) → (a && false) ≡ false
+and-no true = refl
+and-no false = refl
+
 pub or-false : (a b : Bool) → (a || b) ≡ false → (a ≡ false) × (b ≡ false)
 or-false true b e = clash refl e
 or-false false b e = (refl, e)
