@@ -6,3 +6,4 @@ pub mod Holders
 pub mod Places
 pub mod Effects
 pub mod Checks
+pub mod Openings
