@@ -19,7 +19,8 @@ use Rattle.house.specs.Rules.{ticketAfter, begun, readBy, writtenBy, certifiedC
 use Rattle.house.proofs.Tests.{is, same, clash, and-true, and-intro, not-of}
 use Rattle.house.proofs.Cells.{alike, has-marked, has-unmarked, has-withMark}
 use Rattle.house.proofs.Effects.{begun-sizes, begun-place, begun-next, read-sizes, written-sizes, written-item, certified-sizes, certified-place, certified-cell, left-sizes, left-item, left-place, left-cell, begun-place-other, begun-next-other, read-cell-other, written-cell-other, written-item-other, certified-place-other, left-place-other}
-use Rattle.reach.proofs.Law.{held, held-write, held-certify, pair, Open, Issued, CellLaw, Warned, Law, clear-held, clear-certify, clear-read, clear-lawful, Spared, spared-same, Frame, Own}
+use Rattle.reach.specs.Kept.{Open, Issued}
+use Rattle.reach.proofs.Law.{held, held-write, held-certify, pair, CellLaw, Warned, Law, clear-held, clear-certify, clear-read, clear-lawful, Spared, spared-same, Frame, Own}
 use Rattle.reach.proofs.Turns.{MayBegin, MayRead, MayWrite, MayCertify}
 
 -- an active transaction has no certify lock
@@ -206,7 +207,7 @@ module _ {h : House} {me i : ℕ} (v : ℕ) (L : Law h) (K : MayWrite h me i) wh
 
 -- the four cases of a cell
 module _ (cells : List ℕ) (me p i c : ℕ) where
-  cell-untouched : has Write (cellAt cells me i) ≡ false → certifiedCell cells me p i c ≡ c
+  pub cell-untouched : has Write (cellAt cells me i) ≡ false → certifiedCell cells me p i c ≡ c
   unfolding certifiedCell holds
   cell-untouched e = rw e
 

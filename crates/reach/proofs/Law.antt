@@ -13,6 +13,7 @@ use Rattle.house.specs.declared.Mark.the-variants.{Read, Write, Certify, Signal
 use Rattle.house.specs.declared.Standing.{Standing}
 use Rattle.house.specs.Cell.{has, cellAt}
 use Rattle.house.specs.House.{Sizes, dominates, above, levelOf, itemAt, placeAt, nextAt, isFree, isActive, isCertified}
+use Rattle.reach.specs.Kept.{Open, Issued}
 use Rattle.house.proofs.Tests.{is, same, clash, or-left, or-right}
 
 -- the cell says that its item is written: with the write lock or, once certified, with the certify lock
@@ -30,13 +31,6 @@ held-certify c e = or-right (has Write c) (has Certify c) e
 -- the committed pair of an item
 abbrev pub pair : Item → ℕ × ℕ
 pair x = (x .value, x .version)
-
-abbrev pub Open : House → ℕ → Type 0
-Open h p = isFree (placeAt (h .places) p .standing) ≡ false
-
--- ticket t of level l has been given out; a next ticket 0 says that all have
-unfoldable pub Issued : House → ℕ → ℕ → Type 0
-Issued h l t = nextAt (h .next) l ≢ 0 → t < nextAt (h .next) l
 
 -- the cell c of an item x and of a place with level l and standing s
 pub record CellLaw (l : ℕ) (x : Item) (s : Standing) (c : ℕ) : Type 0 where
@@ -86,6 +80,18 @@ module _ (c : ℕ) (z : c ≡ 0) where
         owned = λ w. clash w (ap held z);
         room = λ w. clash w (ap held z);
       }
+
+-- nor does a house where nobody stands and no lock is set
+pub clear-law : {h : House} → Sizes h → ((p : ℕ) → p < 32 → isFree (placeAt (h .places) p .standing) ≡ true) → ((p i : ℕ) → p < 32 → i < 64 → cellAt (h .cells) p i ≡ 0) → Law h
+clear-law z free clear =
+    record {
+      sizes = z;
+      cells = λ p i b a. clear-lawful _ (clear p i b a) _ _ _;
+      sole = λ p q i b c a x y. clash x (clear-held _ (clear p i b a));
+      warned = λ p q i b c a n x y. clash y (clear-read _ (clear q i c a));
+      apart = λ p q b c x y l t. clash (free p b) x;
+      issued = λ p b x. clash (free p b) x;
+    }
 
 -- A change by the transaction at `me`
 

@@ -1,3 +1,4 @@
 pub mod Law
 pub mod Turns
 pub mod Changes
+pub mod Kept

@@ -15,7 +15,7 @@ use Rattle.house.specs.Opening.{opened, opening}
 use Rattle.house.proofs.Tests.{is, clash}
 use Rattle.house.proofs.Openings.{opened-sizes, opened-place, opened-cell}
 use Rattle.reach.specs.Reach.{finally}
-use Rattle.reach.proofs.Law.{clear-lawful, clear-held, clear-read}
+use Rattle.reach.proofs.Law.{clear-law}
 use Rattle.serial.specs.Demand.{Event, trace, done, wrote, Name, name, doing, work, commits, Row, Table, table, answer, answers, look, run, serially, Demand3, Untouched, OfUntouched, OfOpened}
 use Rattle.serial.proofs.Past.{Past, doings, shown, alone, Repeats, serial, Serial}
 use Rattle.serial.proofs.Step.{Closed, Known, step-known}
@@ -26,14 +26,7 @@ untouched-known : {h : House} → Untouched h → Known (table h) h []
 unfolding serial doings
 untouched-known U =
     record {
-      law = record {
-        sizes = U .sizes;
-        cells = λ p i b a. clear-lawful _ (U .clear p i b a) _ _ _;
-        sole = λ p q i b c a x y. clash x (clear-held _ (U .clear p i b a));
-        warned = λ p q i b c a n x y. clash y (clear-read _ (U .clear q i c a));
-        apart = λ p q b c x y l t. clash (U .free p b) x;
-        issued = λ p b x. clash (U .free p b) x;
-      };
+      law = clear-law (U .sizes) (U .free) (U .clear);
       told = λ p b x. clash (U .free p b) x;
       unheard = λ l n b x y. refl;
       ends = refl;
@@ -43,7 +36,7 @@ untouched-known U =
 
 opened-untouched : (levels : List ℕ) → Untouched (opened levels)
 opened-untouched levels =
-    record { sizes = opened-sizes levels; free = λ p b. rw (opened-place levels p); clear = λ p i b a. opened-cell levels p i }
+    record { sizes = opened-sizes levels; free = λ p b. rw (opened-place levels p b); clear = opened-cell levels }
 
 pub opening-untouched : (levels : List ℕ) → Untouched (opening levels .house)
 unfolding opening

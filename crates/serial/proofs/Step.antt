@@ -21,7 +21,8 @@ use Rattle.house.specs.Rules.{read, write, commit, verdict, ticketAfter, begun,
 use Rattle.house.proofs.Tests.{is, same, clash}
 use Rattle.house.proofs.Places.{Seated}
 use Rattle.house.proofs.Effects.{begun-place, begun-next, certified-place, begun-next-other}
-use Rattle.reach.proofs.Law.{Open, Issued, Law, Frame, Own, lawful}
+use Rattle.reach.specs.Kept.{Open, Issued}
+use Rattle.reach.proofs.Law.{Law, Frame, Own, lawful}
 use Rattle.reach.proofs.Turns.{MayBegin, MayRead, MayWrite, MayCertify, MayCommit, Turn, refused, begins, reads, writes, certifies, commits, aborts, asks, turn}
 use Rattle.reach.proofs.Changes.{after-cases, begin-frame, begin-own, read-frame, read-own, write-frame, write-own, certify-frame, certify-own, freed, leave-own, commit-frame, abort-frame}
 use Rattle.serial.specs.Demand.{Event, done, name, doing, Table, table}
