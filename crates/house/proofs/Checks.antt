@@ -21,11 +21,11 @@ abbrev pub NoneApplies : List (ℕ × Bool) → Type 0
 NoneApplies [] = Unit {0}
 NoneApplies (x ∷ xs) = (x .1 ≡ false) × NoneApplies xs
 
-abbrev numbered : List (ℕ × Bool) → Bool
+abbrev pub numbered : List (ℕ × Bool) → Bool
 numbered [] = true
 numbered (x ∷ xs) = not (eqb (x .0) 0) && numbered xs
 
-none-applies : (l : List (ℕ × Bool)) → numbered l ≡ true → foremost l ≡ 0 → NoneApplies l
+pub none-applies : (l : List (ℕ × Bool)) → numbered l ≡ true → foremost l ≡ 0 → NoneApplies l
 none-applies [] n e = tt
 none-applies (x ∷ xs) n e =
     let k = and-true (not (eqb (x .0) 0)) (numbered xs) n in

@@ -20,7 +20,7 @@ use Rattle.house.proofs.Tests.{is, same, clash, and-true, and-intro, not-of}
 use Rattle.house.proofs.Cells.{alike, has-marked, has-unmarked, has-withMark}
 use Rattle.house.proofs.Effects.{begun-sizes, begun-place, begun-next, read-sizes, written-sizes, written-item, certified-sizes, certified-place, certified-cell, left-sizes, left-item, left-place, left-cell, begun-place-other, begun-next-other, read-cell-other, written-cell-other, written-item-other, certified-place-other, left-place-other}
 use Rattle.reach.specs.Kept.{Open, Issued}
-use Rattle.reach.proofs.Law.{held, held-write, held-certify, pair, CellLaw, Warned, Law, clear-held, clear-certify, clear-read, clear-lawful, Spared, spared-same, Frame, Own}
+use Rattle.reach.proofs.Law.{held, held-write, held-certify, pair, CellLaw, Warned, Law, clear-has, clear-held, clear-lawful, Spared, spared-same, Frame, Own}
 use Rattle.reach.proofs.Turns.{MayBegin, MayRead, MayWrite, MayCertify}
 
 -- an active transaction has no certify lock
@@ -68,8 +68,8 @@ module _ {h : House} {l me : ℕ} (L : Law h) (K : MayBegin h l me) where
       record {
         cells = λ i a. clear-lawful _ (begin-clear i a) _ _ _;
         sole = λ p i b a n g. clash g (clear-held _ (begin-clear i a));
-        warns = λ p i b a n c r. clash c (clear-certify _ (begin-clear i a));
-        warned = λ p i b a n c r. clash r (clear-read _ (begin-clear i a));
+        warns = λ p i b a n c r. clash c (clear-has Certify _ (begin-clear i a));
+        warned = λ p i b a n c r. clash r (clear-has Read _ (begin-clear i a));
         apart = λ p b n o x k t.
             let u : placeAt (h .places) p .ticket < nextAt (h .next) l = (rw (k ∙ K .placed) at (L .issued p b x)) (K .ticket) in
             let w : placeAt (h .places) p .ticket ≡ nextAt (h .next) l = rw (begun-place (L .sizes) l me (K .place)) at t in
@@ -226,7 +226,7 @@ module _ (cells : List ℕ) (me p i c : ℕ) where
 spared-signal : (c : ℕ) → has Read c ≡ true → Spared c (marked Signalled c)
 spared-signal c r =
     record {
-      clear = λ z. clash r (clear-read c z);
+      clear = λ z. clash r (clear-has Read c z);
       reading = has-marked Read Signalled c;
       writing = has-marked Write Signalled c;
       certifying = has-marked Certify Signalled c;
@@ -371,8 +371,8 @@ module _ {h : House} {me : ℕ} (L : Law h) (m : me < 32) (f : ℕ → Item → 
       record {
         cells = λ i a. clear-lawful _ (left-mine i a) _ _ _;
         sole = λ p i b a n g. clash g (clear-held _ (left-mine i a));
-        warns = λ p i b a n c r. clash c (clear-certify _ (left-mine i a));
-        warned = λ p i b a n c r. clash r (clear-read _ (left-mine i a));
+        warns = λ p i b a n c r. clash c (clear-has Certify _ (left-mine i a));
+        warned = λ p i b a n c r. clash r (clear-has Read _ (left-mine i a));
         apart = λ p b n o x l t. clash (freed L m f) o;
         issued = λ o. clash (freed L m f) o;
       }

@@ -26,7 +26,7 @@ use Rattle.house.proofs.Effects.{begun-place, begun-next, certified-place, cert
 use Rattle.house.proofs.Openings.{opened-sizes, opened-item, opened-place, opened-cell, opened-next}
 use Rattle.reach.specs.Reach.{finally, Reachable}
 use Rattle.reach.specs.Kept.{Open, Issued, wrote, Kept, OpeningHas, StepKeeps, ReachableHas}
-use Rattle.reach.proofs.Law.{held, Law, Frame, Own, clear-held, clear-law, held-kept, lawful}
+use Rattle.reach.proofs.Law.{held, Law, Frame, Own, clear-has, clear-held, clear-law, held-kept, lawful}
 use Rattle.reach.proofs.Turns.{MayBegin, MayRead, MayWrite, MayCertify, MayCommit, Turn, refused, begins, reads, writes, certifies, commits, aborts, asks, turn}
 use Rattle.reach.proofs.Changes.{begin-clear, begin-frame, begin-own, read-held, read-frame, read-own, write-held, write-holds, write-frame, write-own, cell-untouched, certify-held, certify-frame, certify-own, freed, left-mine, leave-own, committed-unheld, aborted-unheld, commit-frame, abort-frame}
 
@@ -204,7 +204,7 @@ module _ {h : House} {me i : ℕ} (v : ℕ) (L : Law h) (T : Tidy h) (K : MayWri
 -- Certify
 module _ {h : House} {me : ℕ} (L : Law h) (T : Tidy h) (K : MayCertify h me) where
   certify-neat : Neat h (certifiedBy h me) me
-  unfolding certifiedBy has
+  unfolding certifiedBy
   certify-neat =
       let m = K .place in
       let here = certified-place (L .sizes) me m in
@@ -217,7 +217,7 @@ module _ {h : House} {me : ℕ} (L : Law h) (T : Tidy h) (K : MayCertify h me) w
         next = T .next;
         inside = λ i a c.
             let z = T .inside me i m a c in
-            certified-cell (L .sizes) me me i m a ∙ cell-untouched (h .cells) me me i _ (ap (has Write) z) ∙ z;
+            certified-cell (L .sizes) me me i m a ∙ cell-untouched (h .cells) me me i _ (clear-has Write _ z) ∙ z;
       }
 
 -- Commit and abort: f gives up what I hold, and leaves the rest

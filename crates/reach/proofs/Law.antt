@@ -9,6 +9,7 @@ use mathlib.Core.Logic.{_≢_, _⊎_, inl, inr}
 use mathlib.Core.Bool.{Bool, true, false, _||_}
 use Rattle.house.specs.declared.House.{House}
 use Rattle.house.specs.declared.Item.{Item}
+use Rattle.house.specs.declared.Mark.{Mark}
 use Rattle.house.specs.declared.Mark.the-variants.{Read, Write, Certify, Signalled}
 use Rattle.house.specs.declared.Standing.{Standing}
 use Rattle.house.specs.Cell.{has, cellAt}
@@ -56,30 +57,27 @@ pub record Law (h : House) : Type 0 where
 
 -- A clear cell breaks no law
 
-module _ (c : ℕ) (z : c ≡ 0) where
-  pub clear-held : held c ≡ false
-  unfolding has held
-  clear-held = ap held z
+pub clear-has : (m : Mark) (c : ℕ) → c ≡ 0 → has m c ≡ false
+unfolding has
+clear-has Read c z = ap (has Read) z
+clear-has Write c z = ap (has Write) z
+clear-has Certify c z = ap (has Certify) z
+clear-has Signalled c z = ap (has Signalled) z
 
-  pub clear-certify : has Certify c ≡ false
-  unfolding has
-  clear-certify = ap (has Certify) z
+pub clear-held : (c : ℕ) → c ≡ 0 → held c ≡ false
+unfolding held
+clear-held c z = rw (clear-has Write c z) (clear-has Certify c z)
 
-  pub clear-read : has Read c ≡ false
-  unfolding has
-  clear-read = ap (has Read) z
-
-  pub clear-lawful : (l : ℕ) (x : Item) (s : Standing) → CellLaw l x s c
-  unfolding has held
-  clear-lawful l x s =
-      record {
-        idle = λ f. z;
-        writing = λ w. clash w (ap (has Write) z);
-        certifying = λ w. clash w (ap (has Certify) z);
-        below = λ w. clash w (ap (has Read) z);
-        owned = λ w. clash w (ap held z);
-        room = λ w. clash w (ap held z);
-      }
+pub clear-lawful : (c : ℕ) → c ≡ 0 → (l : ℕ) (x : Item) (s : Standing) → CellLaw l x s c
+clear-lawful c z l x s =
+    record {
+      idle = λ f. z;
+      writing = λ w. clash w (clear-has Write c z);
+      certifying = λ w. clash w (clear-has Certify c z);
+      below = λ w. clash w (clear-has Read c z);
+      owned = λ w. clash w (clear-held c z);
+      room = λ w. clash w (clear-held c z);
+    }
 
 -- nor does a house where nobody stands and no lock is set
 pub clear-law : {h : House} → Sizes h → ((p : ℕ) → p < 32 → isFree (placeAt (h .places) p .standing) ≡ true) → ((p i : ℕ) → p < 32 → i < 64 → cellAt (h .cells) p i ≡ 0) → Law h
@@ -88,10 +86,14 @@ clear-law z free clear =
       sizes = z;
       cells = λ p i b a. clear-lawful _ (clear p i b a) _ _ _;
       sole = λ p q i b c a x y. clash x (clear-held _ (clear p i b a));
-      warned = λ p q i b c a n x y. clash y (clear-read _ (clear q i c a));
+      warned = λ p q i b c a n x y. clash y (clear-has Read _ (clear q i c a));
       apart = λ p q b c x y l t. clash (free p b) x;
       issued = λ p b x. clash (free p b) x;
     }
+
+-- who has a lock is open
+pub locked-open : {h : House} → Law h → (m : Mark) (p i : ℕ) → p < 32 → i < 64 → has m (cellAt (h .cells) p i) ≡ true → Open h p
+locked-open {h} L m p i b a e = elim (is (isFree (placeAt (h .places) p .standing))) [ inl f ↦ clash e (clear-has m _ (L .cells p i b a .idle f)) | inr f ↦ f ]
 
 -- A change by the transaction at `me`
 

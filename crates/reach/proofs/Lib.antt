@@ -2,3 +2,4 @@ pub mod Law
 pub mod Turns
 pub mod Changes
 pub mod Kept
+pub mod Guards

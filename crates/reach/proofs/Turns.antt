@@ -77,7 +77,7 @@ pub data Turn (h : House) (q : Request) : Outcome → Type 0 where
   asks : (me : ℕ) → q .operation ≡ 6 → Asker h q me → Turn h q (outcome h q (askAnswer (h .cells) me))
 
 -- the answer of a step, refused and done
-refused-is : (h : House) (q : Request) → verdict h q ≢ 0 → stepped h q ≡ outcome h q (Refused (verdict h q))
+pub refused-is : (h : House) (q : Request) → verdict h q ≢ 0 → stepped h q ≡ outcome h q (Refused (verdict h q))
 unfolding stepped
 refused-is h q n = rw (ne-eqb (verdict h q) 0 n)
 

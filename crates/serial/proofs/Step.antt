@@ -12,19 +12,18 @@ use borrow.Author.Tests.{eq-eqb, ne-eqb}
 use lib.Dec.{eqb}
 use Rattle.house.specs.declared.Answer.the-variants.{Refused, Done, Ticket}
 use Rattle.house.specs.declared.House.{House}
-use Rattle.house.specs.declared.Mark.the-variants.{Write}
 use Rattle.house.specs.declared.Outcome.{Outcome}
 use Rattle.house.specs.declared.Request.{Request}
-use Rattle.house.specs.Cell.{holds}
 use Rattle.house.specs.House.{levelOf, placeAt, nextAt}
 use Rattle.house.specs.Rules.{read, write, commit, verdict, ticketAfter, begun, readBy, readAnswer, writtenBy, certifiedBy, left, committedItem, abortedItem, askAnswer, replied, stepped}
-use Rattle.house.proofs.Tests.{is, same, clash}
+use Rattle.house.proofs.Tests.{same, clash}
 use Rattle.house.proofs.Places.{Seated}
 use Rattle.house.proofs.Effects.{begun-place, begun-next, certified-place, begun-next-other}
 use Rattle.reach.specs.Kept.{Open, Issued}
 use Rattle.reach.proofs.Law.{Law, Frame, Own, lawful}
 use Rattle.reach.proofs.Turns.{MayBegin, MayRead, MayWrite, MayCertify, MayCommit, Turn, refused, begins, reads, writes, certifies, commits, aborts, asks, turn}
 use Rattle.reach.proofs.Changes.{after-cases, begin-frame, begin-own, read-frame, read-own, write-frame, write-own, certify-frame, certify-own, freed, leave-own, commit-frame, abort-frame}
+use Rattle.reach.proofs.Guards.{read-number}
 use Rattle.serial.specs.Demand.{Event, done, name, doing, Table, table}
 use Rattle.serial.proofs.Past.{Past, doings, alone, Repeats, serial, Serial, doings-skip, doings-take, serial-skip, serial-take, doing-other, quiet, doing-quiet}
 use Rattle.serial.proofs.Told.{Told, told-kept, begin-told, read-told, write-told, certify-told, begin-table, read-table, write-table, certify-table, abort-table, commit-table, commit-repeats}
@@ -156,11 +155,6 @@ unmoved {t} {h} {past} I e z c =
     closed-still whole (d ∷ old) x = ((λ y. let k = x .0 y in (k .0, doings-skip _ e whole (doing-quiet _ e z) ∙ k .1)), closed-still whole old (x .1))
 
 -- The operations
-
--- a read is done whichever pair it gives
-read-number : (h : House) (q : Request) (me i : ℕ) → replied q (readAnswer h me i) .number ≡ 0
-unfolding readAnswer
-read-number h q me i = elim (is (holds (h .cells) Write me i)) [ inl w ↦ rw w | inr w ↦ rw w ]
 
 module _ {t : Table} {h : House} {past : Past} (I : Known t h past) (q : Request) where
   refused-known : verdict h q ≢ 0 → Known t h ((q, replied q (Refused (verdict h q))) ∷ past)
