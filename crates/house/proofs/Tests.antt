@@ -54,6 +54,10 @@ pub or-elim {ℓ} : {A : Type ℓ} (a b : Bool) → (a || b) ≡ true → (a ≡
 or-elim true b e f g = f refl
 or-elim false b e f g = g e
 
+pub or-assoc : (a b c : Bool) → ((a || b) || c) ≡ (a || (b || c))
+or-assoc true b c = refl
+or-assoc false b c = refl
+
 pub not-is : (b : Bool) → not b ≡ false → b ≡ true
 not-is true e = refl
 not-is false e = sym e

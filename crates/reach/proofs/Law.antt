@@ -15,7 +15,7 @@ use Rattle.house.specs.declared.Standing.{Standing}
 use Rattle.house.specs.Cell.{has, cellAt}
 use Rattle.house.specs.House.{Sizes, dominates, above, levelOf, itemAt, placeAt, nextAt, isFree, isActive, isCertified}
 use Rattle.reach.specs.Kept.{Open, Issued}
-use Rattle.house.proofs.Tests.{is, same, clash, or-left, or-right}
+use Rattle.house.proofs.Tests.{is, same, clash, or-left, or-right, or-elim}
 
 -- the cell says that its item is written: with the write lock or, once certified, with the certify lock
 unfoldable pub held : ℕ → Bool
@@ -28,6 +28,10 @@ held-write c e = or-left (has Write c) (has Certify c) e
 pub held-certify : (c : ℕ) → has Certify c ≡ true → held c ≡ true
 unfolding held
 held-certify c e = or-right (has Write c) (has Certify c) e
+
+pub held-elim : {A : Type 0} (c : ℕ) → held c ≡ true → (has Write c ≡ true → A) → (has Certify c ≡ true → A) → A
+unfolding held
+held-elim c e f g = or-elim (has Write c) (has Certify c) e f g
 
 -- the committed pair of an item
 abbrev pub pair : Item → ℕ × ℕ

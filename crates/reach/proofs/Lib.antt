@@ -3,3 +3,5 @@ pub mod Turns
 pub mod Changes
 pub mod Kept
 pub mod Guards
+pub mod Delay
+pub mod Decides
