@@ -1,10 +1,10 @@
 -- What each operation's change leaves to the others (`-frame`) and has of its own (`-own`), operation by operation.
 -- Assumes nothing.
-use Prim.Native.Nat.{ℕ, _+_, _/_, _<_}
+use Prim.Native.Nat.{ℕ, _+_, _<_}
 use native.Mathlib.Omega.{arith}
 use mathlib.Core.Path.{_≡_, refl, sym, ap, _∙_}
 use mathlib.Core.Logic.{_≢_, _⊎_, inl, inr}
-use mathlib.Core.Bool.{Bool, true, false, _&&_, _||_, not, cond}
+use mathlib.Core.Bool.{true, false, _&&_, _||_, not, cond}
 use mathlib.Core.List.{List}
 use lib.Dec.{eqb, ltb}
 use borrow.Author.Tests.{eq-eqb, ne-eqb}
@@ -19,8 +19,8 @@ use Rattle.house.specs.Rules.{ticketAfter, begun, readBy, writtenBy, certifiedC
 use Rattle.house.proofs.Tests.{is, same, clash, and-true, and-intro, not-of}
 use Rattle.house.proofs.Cells.{alike, has-marked, has-unmarked, has-withMark}
 use Rattle.house.proofs.Effects.{begun-sizes, begun-place, begun-next, read-sizes, written-sizes, written-item, certified-sizes, certified-place, certified-cell, left-sizes, left-item, left-place, left-cell, begun-place-other, begun-next-other, read-cell-other, written-cell-other, written-item-other, certified-place-other, left-place-other}
-use Rattle.reach.specs.Kept.{Open, Issued}
-use Rattle.reach.proofs.Law.{held, held-write, held-certify, pair, CellLaw, Warned, Law, clear-has, clear-held, clear-lawful, Spared, spared-same, Frame, Own}
+use Rattle.reach.specs.Kept.{Issued}
+use Rattle.reach.proofs.Law.{held, held-write, held-certify, pair, Law, clear-has, clear-held, clear-lawful, Spared, spared-same, Frame, Own}
 use Rattle.reach.proofs.Turns.{MayBegin, MayRead, MayWrite, MayCertify}
 
 -- an active transaction has no certify lock

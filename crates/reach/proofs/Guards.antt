@@ -3,9 +3,9 @@
 use Prim.Native.Nat.{ℕ, _+_, _≤_, _<_}
 use native.Mathlib.Omega.{arith}
 use mathlib.Core.Path.{_≡_, refl, sym, _∙_}
-use mathlib.Core.Logic.{_≢_, inl, inr}
-use mathlib.Core.Bool.{Bool, true, false, _&&_, _||_, cond}
-use lib.Dec.{leb, ltb}
+use mathlib.Core.Logic.{inl, inr}
+use mathlib.Core.Bool.{_&&_, _||_}
+use lib.Dec.{leb}
 use borrow.Author.Tests.{leb-false, lt-leb, lt-ltb}
 use Rattle.house.specs.declared.House.{House}
 use Rattle.house.specs.declared.Mark.the-variants.{Write}

@@ -1,31 +1,30 @@
 -- Every reachable house is `Kept`: the law, and beside it what the operations keep tidy (counts, blank rows, pending values,
 -- tickets).
 -- Assumes nothing.
-use Prim.Native.Nat.{ℕ, _+_, _/_, _≤_, _<_}
+use Prim.Native.Nat.{ℕ, _≤_, _<_}
 use native.Mathlib.Omega.{arith}
 use mathlib.Core.Path.{_≡_, refl, sym, ap, _∙_}
 use mathlib.Core.Logic.{_≢_, _⊎_, inl, inr}
-use mathlib.Core.Bool.{Bool, true, false, _||_, cond}
+use mathlib.Core.Bool.{true, false}
 use mathlib.Core.List.{List, [], _∷_}
 use lib.ListN.{length, getD, List·getD-eq-default}
 use lib.Dec.{eqb, ltb}
 use borrow.Author.Tests.{eqb-true, ltb-true, ltb-false}
 use Rattle.house.specs.declared.House.{House}
 use Rattle.house.specs.declared.Item.{Item}
-use Rattle.house.specs.declared.Mark.the-variants.{Read, Write, Certify, Signalled}
+use Rattle.house.specs.declared.Mark.the-variants.{Write, Certify}
 use Rattle.house.specs.declared.Outcome.{Outcome}
 use Rattle.house.specs.declared.Request.{Request}
-use Rattle.house.specs.Search.{any}
 use Rattle.house.specs.Cell.{has, cellAt, holds}
-use Rattle.house.specs.House.{levelOf, blank, itemAt, placeAt, nextAt, isFree}
-use Rattle.house.specs.Rules.{ticketAfter, begun, readBy, writtenBy, certifiedBy, left, committedItem, abortedItem, stepped}
+use Rattle.house.specs.House.{blank, itemAt, placeAt, nextAt, isFree}
+use Rattle.house.specs.Rules.{ticketAfter, begun, readBy, writtenBy, certifiedBy, left, committedItem, abortedItem}
 use Rattle.house.specs.Opening.{wrongLength, highAt, wrongLevel, openVerdict, opened, opening}
 use Rattle.house.proofs.Tests.{is, same, clash, or-false}
 use Rattle.house.proofs.Searches.{any-none}
 use Rattle.house.proofs.Effects.{begun-place, begun-next, certified-place, certified-cell, left-item, left-place, begun-next-other, read-cell-other, written-cell-other, written-item-other}
 use Rattle.house.proofs.Openings.{opened-sizes, opened-item, opened-place, opened-cell, opened-next}
-use Rattle.reach.specs.Reach.{finally, Reachable}
-use Rattle.reach.specs.Kept.{Open, Issued, wrote, Kept, OpeningHas, StepKeeps, ReachableHas}
+use Rattle.reach.specs.Reach.{finally}
+use Rattle.reach.specs.Kept.{Open, wrote, Kept, OpeningHas, StepKeeps, ReachableHas}
 use Rattle.reach.proofs.Law.{held, Law, Frame, Own, clear-has, clear-held, clear-law, held-kept, lawful}
 use Rattle.reach.proofs.Turns.{MayBegin, MayRead, MayWrite, MayCertify, MayCommit, Turn, refused, begins, reads, writes, certifies, commits, aborts, asks, turn}
 use Rattle.reach.proofs.Changes.{begin-clear, begin-frame, begin-own, read-held, read-frame, read-own, write-held, write-holds, write-frame, write-own, cell-untouched, certify-held, certify-frame, certify-own, freed, left-mine, leave-own, committed-unheld, aborted-unheld, commit-frame, abort-frame}

@@ -2,10 +2,10 @@
 -- Every change is made by the transaction at one place, `me`. `Frame` is what the others keep of it and `Own` what holds of
 -- me's own cells after it, so that the cases "is it me?" are told apart here, once for all operations.
 -- Assumes nothing.
-use Prim.Native.Nat.{ℕ, _/_, _<_}
+use Prim.Native.Nat.{ℕ, _<_}
 use native.Mathlib.Omega.{arith}
-use mathlib.Core.Path.{_≡_, refl, sym, ap, _∙_}
-use mathlib.Core.Logic.{_≢_, _⊎_, inl, inr}
+use mathlib.Core.Path.{_≡_, sym, ap, _∙_}
+use mathlib.Core.Logic.{_≢_, inl, inr}
 use mathlib.Core.Bool.{Bool, true, false, _||_}
 use Rattle.house.specs.declared.House.{House}
 use Rattle.house.specs.declared.Item.{Item}
@@ -13,7 +13,7 @@ use Rattle.house.specs.declared.Mark.{Mark}
 use Rattle.house.specs.declared.Mark.the-variants.{Read, Write, Certify, Signalled}
 use Rattle.house.specs.declared.Standing.{Standing}
 use Rattle.house.specs.Cell.{has, cellAt}
-use Rattle.house.specs.House.{Sizes, dominates, above, levelOf, itemAt, placeAt, nextAt, isFree, isActive, isCertified}
+use Rattle.house.specs.House.{Sizes, dominates, above, levelOf, itemAt, placeAt, isFree, isActive, isCertified}
 use Rattle.reach.specs.Kept.{Open, Issued}
 use Rattle.house.proofs.Tests.{is, same, clash, or-left, or-right, or-elim}
 

@@ -1,12 +1,12 @@
 -- What a request can do, as cases: it is refused, or it is done by the transaction at some place, of which the checks have
 -- left certain facts. Theorems about a step go by these cases and do not look at checks or at searches again.
 -- Assumes nothing.
-use Prim.Native.Nat.{ℕ, _≤_, _<_}
+use Prim.Native.Nat.{ℕ, _<_}
 use native.Mathlib.Omega.{arith}
-use mathlib.Core.Path.{_≡_, refl, sym, ap, _∙_}
+use mathlib.Core.Path.{_≡_, sym, _∙_}
 use mathlib.Core.Logic.{_≢_, _⊎_, inl, inr}
-use mathlib.Core.Bool.{Bool, true, false, _||_, not}
-use lib.Dec.{eqb, leb}
+use mathlib.Core.Bool.{true, false, _||_}
+use lib.Dec.{leb}
 use borrow.Author.Tests.{eqb-true, eqb-false, ne-eqb, leb-false}
 use Rattle.house.specs.declared.Answer.the-variants.{Refused, Done, Ticket}
 use Rattle.house.specs.declared.Found.the-variants.{At}
@@ -15,15 +15,14 @@ use Rattle.house.specs.declared.Mark.the-variants.{Read, Write, Certify}
 use Rattle.house.specs.declared.Outcome.{Outcome}
 use Rattle.house.specs.declared.Request.{Request}
 use Rattle.house.specs.declared.Standing.the-variants.{Active, Certified}
-use Rattle.house.specs.Search.{any}
-use Rattle.house.specs.Cell.{has, cellAt, holds, otherHolds, peerHolds, isSignalled}
+use Rattle.house.specs.Cell.{has, cellAt, holds, otherHolds, isSignalled}
 use Rattle.house.specs.House.{dominates, levelOf, itemAt, placeAt, nextAt, isFree, isCertified, vacancy}
 use Rattle.house.specs.Rules.{asker, noItem, forbidden, stopped, untimely, wornOut, crowded, ticketless, waitsAt, conflict, delayed, verdict, begun, readBy, readAnswer, writtenBy, certifiedBy, committedItem, abortedItem, left, askAnswer, outcome, served, performed, stepped}
-use Rattle.house.proofs.Tests.{same, clash, or-false, and-right-false, not-is}
+use Rattle.house.proofs.Tests.{same, or-false, and-right-false, not-is}
 use Rattle.house.proofs.Searches.{any-none}
 use Rattle.house.proofs.Holders.{other-none, peer-none}
 use Rattle.house.proofs.Places.{Seated, seek-at, vacancy-at, is-active, is-certified}
-use Rattle.house.proofs.Checks.{Clear, clear, somebody, asker-known}
+use Rattle.house.proofs.Checks.{clear, somebody, asker-known}
 use Rattle.reach.proofs.Law.{held}
 
 -- Begin, at the free place `me` of level l

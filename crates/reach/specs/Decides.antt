@@ -1,7 +1,7 @@
 -- The matrix decides: a delay is given exactly when no refusal comes first and the lock matrix of 001 says no for some lock of
 -- another transaction on the item (at a certify: on an item that the asker has written).
 -- Assumes nothing.
-use Prim.Native.Nat.{ℕ, _<_}
+use Prim.Native.Nat.{ℕ}
 use mathlib.Core.Path.{_≡_}
 use mathlib.Core.Bool.{Bool, false, _&&_, _||_, not, cond}
 use mathlib.Core.List.{List, [], _∷_}

@@ -3,14 +3,14 @@
 use Prim.Native.Nat.{ℕ, suc, _+_}
 use mathlib.Core.Path.{_≡_, refl, sym, ap, ap₂, _∙_}
 use mathlib.Core.Logic.{inl, inr}
-use mathlib.Core.Bool.{Bool, true, false, cond}
+use mathlib.Core.Bool.{true, false, cond}
 use mathlib.Core.List.{List, [], _∷_, _++_, map, reverse, reverseAux, reverse-cons, reverse-reverse, append-nil, append-assoc}
 use lib.ListN.{getD}
 use lib.Dec.{eqb}
 use Rattle.house.specs.declared.House.{House}
 use Rattle.house.specs.declared.Request.{Request}
 use Rattle.house.specs.Search.{mapFrom}
-use Rattle.house.specs.Rules.{write, commit, stepped}
+use Rattle.house.specs.Rules.{commit, stepped}
 use Rattle.house.specs.Opening.{opened, opening}
 use Rattle.house.proofs.Tests.{is, clash}
 use Rattle.house.proofs.Openings.{opened-sizes, opened-place, opened-cell}

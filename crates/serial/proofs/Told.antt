@@ -6,11 +6,11 @@ use native.Mathlib.Omega.{arith}
 use native.Mathlib.Nat.{zero-add, add-zero, suc-add, add-suc}
 use mathlib.Core.Path.{_≡_, refl, sym, ap, ap₂, _∙_}
 use mathlib.Core.Logic.{_≢_, inl, inr}
-use mathlib.Core.Bool.{Bool, true, false, _&&_, _||_, cond}
+use mathlib.Core.Bool.{true, false, cond}
 use mathlib.Core.List.{List, [], _∷_, map}
 use lib.ListN.{length, getD, List·getD-map}
 use lib.Seq.{map-set-same}
-use lib.Dec.{eqb, ltb}
+use lib.Dec.{eqb}
 use borrow.Author.Tests.{eq-eqb, ne-eqb, lt-ltb}
 use Rattle.house.specs.declared.Answer.the-variants.{Done}
 use Rattle.house.specs.declared.House.{House}
@@ -19,7 +19,7 @@ use Rattle.house.specs.declared.Mark.the-variants.{Read, Write, Certify, Signal
 use Rattle.house.specs.declared.Request.{Request}
 use Rattle.house.specs.Search.{mapFrom}
 use Rattle.house.specs.Cell.{has, cellAt, holds, isSignalled}
-use Rattle.house.specs.House.{blank, itemAt, placeAt}
+use Rattle.house.specs.House.{blank, itemAt}
 use Rattle.house.specs.Rules.{read, write, grown, begun, readBy, readAnswer, writtenBy, certifiedBy, left, committedItem, abortedItem, replied}
 use Rattle.house.proofs.Tests.{is, same, clash}
 use Rattle.house.proofs.Holders.{unsignalled}
@@ -27,7 +27,7 @@ use Rattle.house.proofs.Effects.{written-item, written-item-other}
 use Rattle.reach.proofs.Law.{held, held-write, held-certify, Law, Frame, clear-held, held-kept}
 use Rattle.reach.proofs.Turns.{MayBegin, MayRead, MayWrite, MayCertify, MayCommit}
 use Rattle.reach.proofs.Changes.{uncertified, begin-clear, read-mine, read-held, write-mine, write-held, write-holds, write-pair, certify-held, certify-read, certify-signalled, aborted-pair}
-use Rattle.serial.specs.Demand.{Event, wrote, Row, Table, row, table, answer}
+use Rattle.serial.specs.Demand.{Event, wrote, Row, row, table, answer}
 use Rattle.serial.proofs.Past.{Past, shown, alone, Repeats}
 
 -- the answer to a read of the transaction at p, which had done `own` before
@@ -210,7 +210,7 @@ module _ {h : House} {me : ℕ} (L : Law h) (K : MayCommit h me) (own : Past) (k
       let c = cellAt (h .cells) me i in
       let none : has Write c ≡ false = elim (is (has Write c)) [ inl w ↦ clash (L .cells me i (K .place) a .writing w) (rw (K .certified)) | inr w ↦ w ] in
       elim (is (has Certify c)) [
-        | inl y ↦ rw (y, lt-ltb (x .version) 4294967295 (L .cells me i (K .place) a .room (held-certify _ y))) (sym (k .writes i a (row x) ∙ rw (none, y)))
+        | inl y ↦ simp (y, lt-ltb (x .version) 4294967295 (L .cells me i (K .place) a .room (held-certify _ y))) (sym (k .writes i a (row x) ∙ rw (none, y)))
         | inr y ↦ rw y (sym (k .writes i a (row x) ∙ rw (none, y)))
       ]
 
