@@ -16,7 +16,7 @@ answered : trace start requests ≡ day
 unfolding scan mapFrom has marked unmarked cellAt withMark mapCells holds anotherHolds otherHolds peerHolds isSignalled firstSignalled countSignalled dominates above freeAt hasTicket seek vacancy noOperation noLevel unusedSet unknown noItem forbidden stopped untimely wornOut crowded ticketless waitsAt conflict delayed checks verdict ticketAfter grown begun readBy readAnswer writtenBy certifiedCell certifiedBy clearedCell left committedItem abortedItem askAnswer served performed stepped wrongLength highAt wrongLevel openVerdict rowAt rows opened opening trace
 answered = refl
 
-kept : take 3 (table (finally start requests)) ≡ ((8, 1) ∷ (5, 1) ∷ (0, 0) ∷ [])
+kept : take 3 (table (finally start requests)) ≡ ((8, 1) ∷ (5, 1) ∷ (9, 1) ∷ [])
 unfolding scan mapFrom has marked unmarked cellAt withMark mapCells holds anotherHolds otherHolds peerHolds isSignalled firstSignalled countSignalled dominates above freeAt hasTicket seek vacancy noOperation noLevel unusedSet unknown noItem forbidden stopped untimely wornOut crowded ticketless waitsAt conflict delayed checks verdict ticketAfter grown begun readBy readAnswer writtenBy certifiedCell certifiedBy clearedCell left committedItem abortedItem askAnswer served performed stepped wrongLength highAt wrongLevel openVerdict rowAt rows opened opening finally
 kept = refl
 

@@ -6,7 +6,7 @@ use mathlib.Core.List.{List, [], _∷_, map}
 use lib.ListN.{take}
 use Rattle.house.specs.declared.House.{House}
 use Rattle.house.specs.declared.Request.{Request}
-use Rattle.house.specs.Rules.{begin, read, write, certify, commit}
+use Rattle.house.specs.Rules.{begin, read, write, certify, commit, abort}
 use Rattle.house.specs.Opening.{opening}
 use Rattle.reach.specs.Reach.{finally}
 use Rattle.serial.specs.Demand.{Event, trace, work, commits, Row, Table, table, answers, serially}
@@ -47,6 +47,13 @@ day =
     -- ticket 2 reads item 0 as committed; level 2 learns that it is signalled
     ∷ event read 0 0 2 0 0 8 1
     ∷ event certify 2 0 1 0 2 0 0
+    -- so it begins anew, writes item 2, reads item 1 as it was before ticket 2's write, and commits before ticket 2
+    ∷ event abort 2 0 1 0 0 0 0
+    ∷ begins 2 2
+    ∷ event write 2 2 2 9 0 0 0
+    ∷ event read 2 1 2 0 0 0 0
+    ∷ event certify 2 0 2 0 0 0 0
+    ∷ event commit 2 0 2 0 0 0 0
     -- ticket 2 certifies and commits
     ∷ event certify 0 0 2 0 0 0 0
     ∷ event commit 0 0 2 0 0 0 0
@@ -65,9 +72,9 @@ alone = serially (table start) (map (λ n. work n day) (commits day))
 -- THE STATEMENT, proved in proofs/Day.antt
 pub record Worked : Type 0 where
   pub answered : trace start requests ≡ day
-  pub committed : commits day ≡ ((0, 1) ∷ (0, 2) ∷ [])
+  pub committed : commits day ≡ ((0, 1) ∷ (2, 2) ∷ (0, 2) ∷ [])
   -- the two sides: what they read alone and what the desk told them, and the first three rows at the end
-  pub reads : alone .0 ≡ (((8, 1) ∷ []) ∷ ((8, 1) ∷ []) ∷ [])
-  pub told : map (λ n. answers (work n day)) (commits day) ≡ (((8, 1) ∷ []) ∷ ((8, 1) ∷ []) ∷ [])
-  pub ends : take 3 (alone .1) ≡ ((8, 1) ∷ (5, 1) ∷ (0, 0) ∷ [])
-  pub kept : take 3 (table (finally start requests)) ≡ ((8, 1) ∷ (5, 1) ∷ (0, 0) ∷ [])
+  pub reads : alone .0 ≡ (((8, 1) ∷ []) ∷ ((0, 0) ∷ []) ∷ ((8, 1) ∷ []) ∷ [])
+  pub told : map (λ n. answers (work n day)) (commits day) ≡ (((8, 1) ∷ []) ∷ ((0, 0) ∷ []) ∷ ((8, 1) ∷ []) ∷ [])
+  pub ends : take 3 (alone .1) ≡ ((8, 1) ∷ (5, 1) ∷ (9, 1) ∷ [])
+  pub kept : take 3 (table (finally start requests)) ≡ ((8, 1) ∷ (5, 1) ∷ (9, 1) ∷ [])
