@@ -14,7 +14,7 @@ use borrow.Author.Tests.{eqb-true, eqb-false, eq-eqb, ne-eqb}
 use Rattle.house.specs.declared.Mark.{Mark}
 use Rattle.house.specs.declared.Mark.the-variants.{Read, Write, Certify, Signalled}
 use Rattle.house.specs.Cell.{weight, has, marked, unmarked, cellAt, withMark, mapCells}
-use Rattle.house.proofs.Tests.{is}
+use Rattle.house.proofs.Tests.{is, same, and-yes, and-no}
 use Rattle.house.proofs.Lists.{length-mapFrom, getD-mapFrom}
 
 -- the two marks are the same; at two marks by name it computes
@@ -142,3 +142,11 @@ cell-elsewhere m cells p i q j a b n = getD-set-other cells (p * 64 + i) (q * 64
 
     same-item : q * 64 + j ≡ p * 64 + i → j ≡ i
     same-item e = omega arith
+
+-- what the cells of a place have once that of item i is marked
+pub has-withMark : (cells : List ℕ) → length cells ≡ 2048 → (n m : Mark) (p i j : ℕ) → p < 32 → i < 64 → j < 64 → has n (cellAt (withMark m cells p i) p j) ≡ (alike n m && eqb j i || has n (cellAt cells p j))
+has-withMark cells long n m p i j b a c =
+    elim (same j i) [
+      | inl e ↦ rw (e, cell-here cells long m p i b a, has-marked n m (cellAt cells p i), eq-eqb i i refl, and-yes (alike n m))
+      | inr d ↦ rw (cell-elsewhere m cells p i p j a c (λ e. d), ne-eqb j i d, and-no (alike n m))
+    ]

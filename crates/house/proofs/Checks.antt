@@ -25,7 +25,7 @@ abbrev pub numbered : List (ℕ × Bool) → Bool
 numbered [] = true
 numbered (x ∷ xs) = not (eqb (x .0) 0) && numbered xs
 
-none-applies : (l : List (ℕ × Bool)) → numbered l ≡ true → foremost l ≡ 0 → NoneApplies l
+pub none-applies : (l : List (ℕ × Bool)) → numbered l ≡ true → foremost l ≡ 0 → NoneApplies l
 none-applies [] n e = tt
 none-applies (x ∷ xs) n e =
     let k = and-true (not (eqb (x .0) 0)) (numbered xs) n in

@@ -122,3 +122,6 @@ module _ (f : ℕ → Bool) where
   unfolding scan
   any-find k zero e = clash e refl
   any-find k (suc n) e = elim (is (f k)) [ inl y ↦ (k, rw y) | inr y ↦ let r = any-find (suc k) n (rw y at e) in (r .0, rw y (r .1)) ]
+
+  pub any-some : (k n : ℕ) → any f k n ≡ true → (p : ℕ) × (k ≤ p) × (p < k + n) × (f p ≡ true)
+  any-some k n e = let r = any-find k n e in let a = find-at k n (r .0) (r .1) in (r .0, a .0, a .1, a .2)

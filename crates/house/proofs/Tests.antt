@@ -30,6 +30,14 @@ pub and-right-false : (a b : Bool) → a ≡ true → (a && b) ≡ false → b �
 and-right-false true b p e = e
 and-right-false false b p e = clash p refl
 
+pub and-yes : (a : Bool) → (a && true) ≡ a
+and-yes true = refl
+and-yes false = refl
+
+pub and-no : (a : Bool) → (a && false) ≡ false
+and-no true = refl
+and-no false = refl
+
 pub or-false : (a b : Bool) → (a || b) ≡ false → (a ≡ false) × (b ≡ false)
 or-false true b e = clash refl e
 or-false false b e = (refl, e)
@@ -45,6 +53,10 @@ or-right false b e = e
 pub or-elim {ℓ} : {A : Type ℓ} (a b : Bool) → (a || b) ≡ true → (a ≡ true → A) → (b ≡ true → A) → A
 or-elim true b e f g = f refl
 or-elim false b e f g = g e
+
+pub or-assoc : (a b c : Bool) → ((a || b) || c) ≡ (a || (b || c))
+or-assoc true b c = refl
+or-assoc false b c = refl
 
 pub not-is : (b : Bool) → not b ≡ false → b ≡ true
 not-is true e = refl

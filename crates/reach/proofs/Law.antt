@@ -1,0 +1,193 @@
+-- The law of the house: what every request keeps of locks, places and tickets, as far as demand 3 rests on it.
+-- Every change is made by the transaction at one place, `me`. `Frame` is what the others keep of it and `Own` what holds of
+-- me's own cells after it, so that the cases "is it me?" are told apart here, once for all operations.
+-- Assumes nothing.
+use Prim.Native.Nat.{ℕ, _<_}
+use native.Mathlib.Omega.{arith}
+use mathlib.Core.Path.{_≡_, sym, ap, _∙_}
+use mathlib.Core.Logic.{_≢_, inl, inr}
+use mathlib.Core.Bool.{Bool, true, false, _||_}
+use Rattle.house.specs.declared.House.{House}
+use Rattle.house.specs.declared.Item.{Item}
+use Rattle.house.specs.declared.Mark.{Mark}
+use Rattle.house.specs.declared.Mark.the-variants.{Read, Write, Certify, Signalled}
+use Rattle.house.specs.declared.Standing.{Standing}
+use Rattle.house.specs.Cell.{has, cellAt}
+use Rattle.house.specs.House.{Sizes, dominates, above, levelOf, itemAt, placeAt, isFree, isActive, isCertified}
+use Rattle.reach.specs.Kept.{Open, Issued}
+use Rattle.house.proofs.Tests.{is, same, clash, or-left, or-right, or-elim}
+
+-- the cell says that its item is written: with the write lock or, once certified, with the certify lock
+unfoldable pub held : ℕ → Bool
+held c = has Write c || has Certify c
+
+pub held-write : (c : ℕ) → has Write c ≡ true → held c ≡ true
+unfolding held
+held-write c e = or-left (has Write c) (has Certify c) e
+
+pub held-certify : (c : ℕ) → has Certify c ≡ true → held c ≡ true
+unfolding held
+held-certify c e = or-right (has Write c) (has Certify c) e
+
+pub held-elim : {A : Type 0} (c : ℕ) → held c ≡ true → (has Write c ≡ true → A) → (has Certify c ≡ true → A) → A
+unfolding held
+held-elim c e f g = or-elim (has Write c) (has Certify c) e f g
+
+-- the committed pair of an item
+abbrev pub pair : Item → ℕ × ℕ
+pair x = (x .value, x .version)
+
+-- the cell c of an item x and of a place with level l and standing s
+pub record CellLaw (l : ℕ) (x : Item) (s : Standing) (c : ℕ) : Type 0 where
+  pub idle : isFree s ≡ true → c ≡ 0
+  pub writing : has Write c ≡ true → isActive s ≡ true
+  pub certifying : has Certify c ≡ true → isCertified s ≡ true
+  pub below : has Read c ≡ true → dominates l (x .level) ≡ true
+  pub owned : held c ≡ true → x .level ≡ l
+  pub room : held c ≡ true → x .version < 4294967295
+
+-- a cell with a read lock from level a, on an item that level b has certified
+pub record Warned (a b c : ℕ) : Type 0 where
+  pub higher : above a b ≡ true
+  pub signal : has Signalled c ≡ true
+
+pub record Law (h : House) : Type 0 where
+  pub sizes : Sizes h
+  pub cells : (p i : ℕ) → p < 32 → i < 64 → CellLaw (levelOf p) (itemAt (h .items) i) (placeAt (h .places) p .standing) (cellAt (h .cells) p i)
+  pub sole : (p q i : ℕ) → p < 32 → q < 32 → i < 64 → held (cellAt (h .cells) p i) ≡ true → held (cellAt (h .cells) q i) ≡ true → p ≡ q
+  pub warned : (p q i : ℕ) → p < 32 → q < 32 → i < 64 → q ≢ p → has Certify (cellAt (h .cells) p i) ≡ true → has Read (cellAt (h .cells) q i) ≡ true → Warned (levelOf q) (levelOf p) (cellAt (h .cells) q i)
+  pub apart : (p q : ℕ) → p < 32 → q < 32 → Open h p → Open h q → levelOf p ≡ levelOf q → placeAt (h .places) p .ticket ≡ placeAt (h .places) q .ticket → p ≡ q
+  pub issued : (p : ℕ) → p < 32 → Open h p → Issued h (levelOf p) (placeAt (h .places) p .ticket)
+
+-- A clear cell breaks no law
+
+pub clear-has : (m : Mark) (c : ℕ) → c ≡ 0 → has m c ≡ false
+unfolding has
+clear-has Read c z = ap (has Read) z
+clear-has Write c z = ap (has Write) z
+clear-has Certify c z = ap (has Certify) z
+clear-has Signalled c z = ap (has Signalled) z
+
+pub clear-held : (c : ℕ) → c ≡ 0 → held c ≡ false
+unfolding held
+clear-held c z = rw (clear-has Write c z) (clear-has Certify c z)
+
+pub clear-lawful : (c : ℕ) → c ≡ 0 → (l : ℕ) (x : Item) (s : Standing) → CellLaw l x s c
+clear-lawful c z l x s =
+    record {
+      idle = λ f. z;
+      writing = λ w. clash w (clear-has Write c z);
+      certifying = λ w. clash w (clear-has Certify c z);
+      below = λ w. clash w (clear-has Read c z);
+      owned = λ w. clash w (clear-held c z);
+      room = λ w. clash w (clear-held c z);
+    }
+
+-- nor does a house where nobody stands and no lock is set
+pub clear-law : {h : House} → Sizes h → ((p : ℕ) → p < 32 → isFree (placeAt (h .places) p .standing) ≡ true) → ((p i : ℕ) → p < 32 → i < 64 → cellAt (h .cells) p i ≡ 0) → Law h
+clear-law z free clear =
+    record {
+      sizes = z;
+      cells = λ p i b a. clear-lawful _ (clear p i b a) _ _ _;
+      sole = λ p q i b c a x y. clash x (clear-held _ (clear p i b a));
+      warned = λ p q i b c a n x y. clash y (clear-has Read _ (clear q i c a));
+      apart = λ p q b c x y l t. clash (free p b) x;
+      issued = λ p b x. clash (free p b) x;
+    }
+
+-- who has a lock is open
+pub locked-open : {h : House} → Law h → (m : Mark) (p i : ℕ) → p < 32 → i < 64 → has m (cellAt (h .cells) p i) ≡ true → Open h p
+locked-open {h} L m p i b a e = elim (is (isFree (placeAt (h .places) p .standing))) [ inl f ↦ clash e (clear-has m _ (L .cells p i b a .idle f)) | inr f ↦ f ]
+
+-- A change by the transaction at `me`
+
+-- what a cell c of another place becomes: at most signalled
+pub record Spared (c d : ℕ) : Type 0 where
+  pub clear : c ≡ 0 → d ≡ 0
+  pub reading : has Read d ≡ has Read c
+  pub writing : has Write d ≡ has Write c
+  pub certifying : has Certify d ≡ has Certify c
+  pub signal : has Signalled c ≡ true → has Signalled d ≡ true
+
+pub spared-same : {c d : ℕ} → d ≡ c → Spared c d
+spared-same e = record { clear = λ z. e ∙ z; reading = ap (has Read) e; writing = ap (has Write) e; certifying = ap (has Certify) e; signal = λ s. ap (has Signalled) e ∙ s }
+
+pub record Frame (h h′ : House) (me : ℕ) : Type 0 where
+  pub sizes : Sizes h′
+  pub level : (i : ℕ) → i < 64 → itemAt (h′ .items) i .level ≡ itemAt (h .items) i .level
+  pub place : (p : ℕ) → p < 32 → p ≢ me → placeAt (h′ .places) p ≡ placeAt (h .places) p
+  pub cell : (p i : ℕ) → p < 32 → i < 64 → p ≢ me → Spared (cellAt (h .cells) p i) (cellAt (h′ .cells) p i)
+  -- an item that another has written is as it was
+  pub item : (p i : ℕ) → p < 32 → i < 64 → p ≢ me → held (cellAt (h .cells) p i) ≡ true → itemAt (h′ .items) i ≡ itemAt (h .items) i
+  -- so is the committed pair that another has read, unless that cell is signalled
+  pub row : (p i : ℕ) → p < 32 → i < 64 → p ≢ me → has Read (cellAt (h .cells) p i) ≡ true → has Signalled (cellAt (h′ .cells) p i) ≡ false → pair (itemAt (h′ .items) i) ≡ pair (itemAt (h .items) i)
+  pub issued : (l t : ℕ) → l < 4 → Issued h l t → Issued h′ l t
+
+pub record Own (h h′ : House) (me : ℕ) : Type 0 where
+  pub cells : (i : ℕ) → i < 64 → CellLaw (levelOf me) (itemAt (h′ .items) i) (placeAt (h′ .places) me .standing) (cellAt (h′ .cells) me i)
+  pub sole : (p i : ℕ) → p < 32 → i < 64 → p ≢ me → held (cellAt (h′ .cells) me i) ≡ true → held (cellAt (h .cells) p i) ≡ false
+  pub warns : (p i : ℕ) → p < 32 → i < 64 → p ≢ me → has Certify (cellAt (h′ .cells) me i) ≡ true → has Read (cellAt (h .cells) p i) ≡ true → Warned (levelOf p) (levelOf me) (cellAt (h′ .cells) p i)
+  pub warned : (p i : ℕ) → p < 32 → i < 64 → p ≢ me → has Certify (cellAt (h .cells) p i) ≡ true → has Read (cellAt (h′ .cells) me i) ≡ true → Warned (levelOf me) (levelOf p) (cellAt (h′ .cells) me i)
+  pub apart : (p : ℕ) → p < 32 → p ≢ me → Open h′ me → Open h p → levelOf p ≡ levelOf me → placeAt (h .places) p .ticket ≢ placeAt (h′ .places) me .ticket
+  pub issued : Open h′ me → Issued h′ (levelOf me) (placeAt (h′ .places) me .ticket)
+
+module _ {h h′ : House} {me : ℕ} (L : Law h) (F : Frame h h′ me) where
+  pub held-kept : (p i : ℕ) → p < 32 → i < 64 → p ≢ me → held (cellAt (h′ .cells) p i) ≡ held (cellAt (h .cells) p i)
+  unfolding held
+  held-kept p i b a n = let s = F .cell p i b a n in rw (s .writing, s .certifying)
+
+  other-lawful : (p i : ℕ) → p < 32 → i < 64 → p ≢ me → CellLaw (levelOf p) (itemAt (h′ .items) i) (placeAt (h′ .places) p .standing) (cellAt (h′ .cells) p i)
+  other-lawful p i b a n =
+      let s = F .cell p i b a n in
+      let k = L .cells p i b a in
+      let hk = held-kept p i b a n in
+      rw (F .place p b n)
+      (record {
+        idle = λ f. s .clear (k .idle f);
+        writing = λ w. k .writing (sym (s .writing) ∙ w);
+        certifying = λ c. k .certifying (sym (s .certifying) ∙ c);
+        below = λ r. rw (F .level i a) (k .below (sym (s .reading) ∙ r));
+        owned = λ g. F .level i a ∙ k .owned (sym hk ∙ g);
+        room = λ g. rw (F .item p i b a n (sym hk ∙ g)) (k .room (sym hk ∙ g));
+      })
+
+  pub lawful : me < 32 → Own h h′ me → Law h′
+  lawful m O =
+      record {
+        sizes = F .sizes;
+        cells = λ p i b a. elim (same p me) [ inl e ↦ rw e (O .cells i a) | inr n ↦ other-lawful p i b a n ];
+        sole = λ p q i b c a x y.
+            elim (same p me) [
+              | inl e ↦ elim (same q me) [ inl f ↦ e ∙ sym f | inr n ↦ clash (sym (held-kept q i c a n) ∙ y) (O .sole q i c a n (rw e at x)) ]
+              | inr n ↦ elim (same q me) [
+                | inl f ↦ clash (sym (held-kept p i b a n) ∙ x) (O .sole p i b a n (rw f at y))
+                | inr k ↦ L .sole p q i b c a (sym (held-kept p i b a n) ∙ x) (sym (held-kept q i c a k) ∙ y)
+              ]
+            ];
+        warned = λ p q i b c a d x y.
+            elim (same p me) [
+              | inl e ↦ rw e (O .warns q i c a (λ f. d (f ∙ sym e)) (rw e at x) (sym (F .cell q i c a (λ f. d (f ∙ sym e)) .reading) ∙ y))
+              | inr n ↦ elim (same q me) [
+                | inl f ↦ rw f (O .warned p i b a n (sym (F .cell p i b a n .certifying) ∙ x) (rw f at y))
+                | inr k ↦
+                    let w = L .warned p q i b c a d (sym (F .cell p i b a n .certifying) ∙ x) (sym (F .cell q i c a k .reading) ∙ y) in
+                    record { higher = w .higher; signal = F .cell q i c a k .signal (w .signal) }
+              ]
+            ];
+        apart = λ p q b c x y l t.
+            elim (same p me) [
+              | inl e ↦ elim (same q me) [
+                | inl f ↦ e ∙ sym f
+                | inr n ↦ absurd (O .apart q c n (rw e at x) (rw (F .place q c n) at y) (sym l ∙ ap levelOf e) (cc (F .place q c n)))
+              ]
+              | inr n ↦ elim (same q me) [
+                | inl f ↦ absurd (O .apart p b n (rw f at y) (rw (F .place p b n) at x) (l ∙ ap levelOf f) (cc (F .place p b n)))
+                | inr k ↦ L .apart p q b c (rw (F .place p b n) at x) (rw (F .place q c k) at y) l (cc (F .place p b n, F .place q c k))
+              ]
+            ];
+        issued = λ p b x.
+            elim (same p me) [
+              | inl e ↦ rw e (O .issued (rw e at x))
+              | inr n ↦ rw (F .place p b n) (F .issued _ _ (omega arith) (L .issued p b (rw (F .place p b n) at x)))
+            ];
+      }

@@ -1,0 +1,7 @@
+pub mod Law
+pub mod Turns
+pub mod Changes
+pub mod Kept
+pub mod Guards
+pub mod Delay
+pub mod Decides

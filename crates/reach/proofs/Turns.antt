@@ -1,0 +1,227 @@
+-- What a request can do, as cases: it is refused, or it is done by the transaction at some place, of which the checks have
+-- left certain facts. Theorems about a step go by these cases and do not look at checks or at searches again.
+-- Assumes nothing.
+use Prim.Native.Nat.{ℕ, _<_}
+use native.Mathlib.Omega.{arith}
+use mathlib.Core.Path.{_≡_, sym, _∙_}
+use mathlib.Core.Logic.{_≢_, _⊎_, inl, inr}
+use mathlib.Core.Bool.{true, false, _||_}
+use lib.Dec.{leb}
+use borrow.Author.Tests.{eqb-true, eqb-false, ne-eqb, leb-false}
+use Rattle.house.specs.declared.Answer.the-variants.{Refused, Done, Ticket}
+use Rattle.house.specs.declared.Found.the-variants.{At}
+use Rattle.house.specs.declared.House.{House}
+use Rattle.house.specs.declared.Mark.the-variants.{Read, Write, Certify}
+use Rattle.house.specs.declared.Outcome.{Outcome}
+use Rattle.house.specs.declared.Request.{Request}
+use Rattle.house.specs.declared.Standing.the-variants.{Active, Certified}
+use Rattle.house.specs.Cell.{has, cellAt, holds, otherHolds, isSignalled}
+use Rattle.house.specs.House.{dominates, levelOf, itemAt, placeAt, nextAt, isFree, isCertified, vacancy}
+use Rattle.house.specs.Rules.{asker, noItem, forbidden, stopped, untimely, wornOut, crowded, ticketless, waitsAt, conflict, delayed, verdict, begun, readBy, readAnswer, writtenBy, certifiedBy, committedItem, abortedItem, left, askAnswer, outcome, served, performed, stepped}
+use Rattle.house.proofs.Tests.{same, or-false, and-right-false, not-is}
+use Rattle.house.proofs.Searches.{any-none}
+use Rattle.house.proofs.Holders.{other-none, peer-none}
+use Rattle.house.proofs.Places.{Seated, seek-at, vacancy-at, is-active, is-certified}
+use Rattle.house.proofs.Checks.{clear, somebody, asker-known}
+use Rattle.reach.proofs.Law.{held}
+
+-- Begin, at the free place `me` of level l
+pub record MayBegin (h : House) (l me : ℕ) : Type 0 where
+  pub level : l < 4
+  pub place : me < 32
+  pub placed : levelOf me ≡ l
+  pub empty : isFree (placeAt (h .places) me .standing) ≡ true
+  pub ticket : nextAt (h .next) l ≢ 0
+
+-- Read, of item i by the transaction at `me`
+pub record MayRead (h : House) (me i : ℕ) : Type 0 where
+  pub place : me < 32
+  pub row : i < 64
+  pub item : i < h .count
+  pub active : placeAt (h .places) me .standing ≡ Active
+  pub may : dominates (levelOf me) (itemAt (h .items) i .level) ≡ true
+  pub uncontested : (p : ℕ) → p < 32 → p ≢ me → has Certify (cellAt (h .cells) p i) ≡ false
+
+pub record MayWrite (h : House) (me i : ℕ) : Type 0 where
+  pub place : me < 32
+  pub row : i < 64
+  pub item : i < h .count
+  pub active : placeAt (h .places) me .standing ≡ Active
+  pub mine : itemAt (h .items) i .level ≡ levelOf me
+  pub room : itemAt (h .items) i .version < 4294967295
+  pub uncontested : (p : ℕ) → p < 32 → p ≢ me → held (cellAt (h .cells) p i) ≡ false
+
+pub record MayCertify (h : House) (me : ℕ) : Type 0 where
+  pub place : me < 32
+  pub active : placeAt (h .places) me .standing ≡ Active
+  pub unread : (p i : ℕ) → i < 64 → p ≢ me → levelOf p ≡ levelOf me → has Write (cellAt (h .cells) me i) ≡ true → has Read (cellAt (h .cells) p i) ≡ false
+
+pub record MayCommit (h : House) (me : ℕ) : Type 0 where
+  pub place : me < 32
+  pub certified : placeAt (h .places) me .standing ≡ Certified
+  pub unsignalled : isSignalled (h .cells) me ≡ false
+
+abbrev Asker : House → Request → ℕ → Type 0
+Asker h q me = Seated (h .places) (q .level) (q .ticket) me
+
+-- the cases, with what each yields
+pub data Turn (h : House) (q : Request) : Outcome → Type 0 where
+  refused : verdict h q ≢ 0 → Turn h q (outcome h q (Refused (verdict h q)))
+  begins : (me : ℕ) → q .operation ≡ 0 → MayBegin h (q .level) me → Turn h q (outcome (begun h (q .level) me) q (Ticket (nextAt (h .next) (q .level))))
+  reads : (me : ℕ) → q .operation ≡ 1 → Asker h q me → MayRead h me (q .item) → Turn h q (outcome (readBy h me (q .item)) q (readAnswer h me (q .item)))
+  writes : (me : ℕ) → q .operation ≡ 2 → Asker h q me → MayWrite h me (q .item) → Turn h q (outcome (writtenBy h me (q .item) (q .value)) q Done)
+  certifies : (me : ℕ) → q .operation ≡ 3 → Asker h q me → MayCertify h me → Turn h q (outcome (certifiedBy h me) q Done)
+  commits : (me : ℕ) → q .operation ≡ 4 → Asker h q me → MayCommit h me → Turn h q (outcome (left (committedItem (h .cells) me) h me) q Done)
+  aborts : (me : ℕ) → q .operation ≡ 5 → Asker h q me → Turn h q (outcome (left (abortedItem (h .cells) me) h me) q Done)
+  asks : (me : ℕ) → q .operation ≡ 6 → Asker h q me → Turn h q (outcome h q (askAnswer (h .cells) me))
+
+-- the answer of a step, refused and done
+pub refused-is : (h : House) (q : Request) → verdict h q ≢ 0 → stepped h q ≡ outcome h q (Refused (verdict h q))
+unfolding stepped
+refused-is h q n = rw (ne-eqb (verdict h q) 0 n)
+
+done-is : (h : House) (q : Request) → verdict h q ≡ 0 → stepped h q ≡ performed h q
+unfolding stepped
+done-is h q e = rw e
+
+begun-is : (h : House) (q : Request) (me : ℕ) → q .operation ≡ 0 → vacancy (h .places) (q .level) ≡ At me → performed h q ≡ outcome (begun h (q .level) me) q (Ticket (nextAt (h .next) (q .level)))
+unfolding performed
+begun-is h q me o a = rw (o, a)
+
+served-is : (h : House) (q : Request) (me : ℕ) → q .operation ≢ 0 → asker h q ≡ At me → performed h q ≡ served h q me
+unfolding performed
+served-is h q me n a = rw (ne-eqb (q .operation) 0 n, a)
+
+module _ (h : House) (q : Request) (me : ℕ) where
+  read-is : q .operation ≡ 1 → served h q me ≡ outcome (readBy h me (q .item)) q (readAnswer h me (q .item))
+  unfolding served
+  read-is o = rw o
+
+  write-is : q .operation ≡ 2 → served h q me ≡ outcome (writtenBy h me (q .item) (q .value)) q Done
+  unfolding served
+  write-is o = rw o
+
+  certify-is : q .operation ≡ 3 → served h q me ≡ outcome (certifiedBy h me) q Done
+  unfolding served
+  certify-is o = rw o
+
+  commit-is : q .operation ≡ 4 → served h q me ≡ outcome (left (committedItem (h .cells) me) h me) q Done
+  unfolding served
+  commit-is o = rw o
+
+  abort-is : q .operation ≡ 5 → served h q me ≡ outcome (left (abortedItem (h .cells) me) h me) q Done
+  unfolding served
+  abort-is o = rw o
+
+  ask-is : q .operation ≡ 6 → served h q me ≡ outcome h q (askAnswer (h .cells) me)
+  unfolding served
+  ask-is o = rw o
+
+module _ (h : House) (q : Request) (v : verdict h q ≡ 0) where
+  may-begin : q .operation ≡ 0 → (me : ℕ) × (vacancy (h .places) (q .level) ≡ At me) × MayBegin h (q .level) me
+  unfolding crowded ticketless
+  may-begin o =
+      let c = clear h q v in
+      let s = somebody (vacancy (h .places) (q .level)) (rw o at (c .roomy)) in
+      let u = vacancy-at (h .places) (q .level) (s .0) (c .level) (s .1) in
+      (s .0, s .1, record { level = c .level; place = u .within .place; placed = u .within .level; empty = u .free; ticket = eqb-false _ 0 (rw o at (c .ticketed)) })
+
+  module _ (me : ℕ) (a : asker h q ≡ At me) where
+    seated : Asker h q me
+    seated = seek-at (h .places) (q .level) (q .ticket) me (clear h q v .level) a
+
+    item-there : q .operation ≡ 1 ⊎ q .operation ≡ 2 → (q .item < h .count) × (q .item < 64)
+    unfolding noItem
+    item-there o =
+        let e : leb (h .count) (q .item) || leb 64 (q .item) ≡ false = elim o [ inl o ↦ rw o at (clear h q v .present) | inr o ↦ rw o at (clear h q v .present) ] in
+        let k = or-false (leb (h .count) (q .item)) (leb 64 (q .item)) e in
+        (leb-false (h .count) (q .item) (k .0), leb-false 64 (q .item) (k .1))
+
+    still-active : isCertified (placeAt (h .places) me .standing) ≡ false → placeAt (h .places) me .standing ≡ Active
+    still-active e = is-active _ (seated .taken) e
+
+    may-read : q .operation ≡ 1 → MayRead h me (q .item)
+    unfolding forbidden untimely delayed conflict
+    may-read o =
+        let c = clear h q v in
+        let i = item-there (inl o) in
+        record {
+          place = seated .within .place;
+          row = i .1;
+          item = i .0;
+          active = still-active (rw (o, a) at (c .timely));
+          may = rw (seated .within .level) (not-is _ (rw o at (c .allowed)));
+          uncontested = other-none (h .cells) Certify me (q .item) (rw (o, a) at (c .undelayed));
+        }
+
+    may-write : q .operation ≡ 2 → MayWrite h me (q .item)
+    unfolding forbidden untimely wornOut delayed conflict held
+    may-write o =
+        let c = clear h q v in
+        let i = item-there (inr o) in
+        let n = or-false (otherHolds (h .cells) Write me (q .item)) (otherHolds (h .cells) Certify me (q .item)) (rw (o, a) at (c .undelayed)) in
+        record {
+          place = seated .within .place;
+          row = i .1;
+          item = i .0;
+          active = still-active (rw (o, a) at (c .timely));
+          mine = eqb-true _ _ (not-is _ (rw o at (c .allowed))) ∙ sym (seated .within .level);
+          room = leb-false 4294967295 (itemAt (h .items) (q .item) .version) (rw o at (c .fresh));
+          uncontested = λ p b d. rw (other-none (h .cells) Write me (q .item) (n .0) p b d) (other-none (h .cells) Certify me (q .item) (n .1) p b d);
+        }
+
+    may-certify : q .operation ≡ 3 → MayCertify h me
+    unfolding untimely delayed conflict waitsAt holds
+    may-certify o =
+        let c = clear h q v in
+        let n = any-none (waitsAt (h .cells) me) 0 64 (rw (o, a) at (c .undelayed)) in
+        record {
+          place = seated .within .place;
+          active = still-active (rw (o, a) at (c .timely));
+          unread = λ p i b d l w. peer-none (h .cells) Read me i (and-right-false _ _ w (n i (omega arith) (omega arith))) p l d;
+        }
+
+    may-commit : q .operation ≡ 4 → MayCommit h me
+    unfolding untimely stopped
+    may-commit o =
+        let c = clear h q v in
+        record {
+          place = seated .within .place;
+          certified = is-certified _ (seated .taken) (rw (o, a) at (c .timely));
+          unsignalled = rw (o, a) at (c .unstopped);
+        }
+
+    turn-served : q .operation ≢ 0 → Turn h q (served h q me)
+    turn-served n0 =
+        elim (same (q .operation) 1) [
+          | inl o ↦ rw (read-is h q me o) (reads me o seated (may-read o))
+          | inr n1 ↦
+              elim (same (q .operation) 2) [
+                | inl o ↦ rw (write-is h q me o) (writes me o seated (may-write o))
+                | inr n2 ↦
+                    elim (same (q .operation) 3) [
+                      | inl o ↦ rw (certify-is h q me o) (certifies me o seated (may-certify o))
+                      | inr n3 ↦
+                          elim (same (q .operation) 4) [
+                            | inl o ↦ rw (commit-is h q me o) (commits me o seated (may-commit o))
+                            | inr n4 ↦
+                                elim (same (q .operation) 5) [
+                                  | inl o ↦ rw (abort-is h q me o) (aborts me o seated)
+                                  | inr n5 ↦
+                                      let o : q .operation ≡ 6 = let b = clear h q v .operation in omega arith in
+                                      rw (ask-is h q me o) (asks me o seated)
+                                ]
+                          ]
+                    ]
+              ]
+        ]
+
+  turn-done : Turn h q (performed h q)
+  turn-done = elim (same (q .operation) 0) [
+    | inl o ↦ let b = may-begin o in rw (begun-is h q (b .0) o (b .1)) (begins (b .0) o (b .2))
+    | inr n ↦ let k = asker-known h q n v in rw (served-is h q (k .0) n (k .1)) (turn-served (k .0) (k .1) n)
+  ]
+
+-- every request is one of them
+pub turn : (h : House) (q : Request) → Turn h q (stepped h q)
+turn h q = elim (same (verdict h q) 0) [ inl v ↦ rw (done-is h q v) (turn-done h q v) | inr n ↦ rw (refused-is h q n) (refused n) ]

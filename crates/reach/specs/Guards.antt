@@ -1,0 +1,26 @@
+-- The rules speak of every house value, so they have guards for houses that cannot be reached: a largest version stays, an item
+-- number is held to 64 as well as to the count, a done request that finds no place is refused. In a house that can be reached
+-- none of them decides.
+-- Assumes nothing.
+use Prim.Native.Nat.{ℕ, _+_, _<_}
+use mathlib.Core.Path.{_≡_}
+use mathlib.Core.Bool.{true, _&&_}
+use lib.Dec.{leb}
+use Rattle.house.specs.declared.House.{House}
+use Rattle.house.specs.declared.Request.{Request}
+use Rattle.house.specs.House.{itemAt}
+use Rattle.house.specs.Rules.{usesItem, noItem, verdict, grown, stepped}
+use Rattle.reach.specs.Reach.{Reachable}
+use Rattle.reach.specs.Kept.{wrote}
+
+pub record Unguarded (h : House) : Type 0 where
+  -- the version of a written item grows by one, at its commit and in its writer's reads
+  pub grows : (p i : ℕ) → p < 32 → i < 64 → wrote (h .cells) p i ≡ true → grown (itemAt (h .items) i .version) ≡ itemAt (h .items) i .version + 1
+  -- the count alone says which items there are
+  pub counted : (q : Request) → noItem h q ≡ (usesItem q && leb (h .count) (q .item))
+  -- a request that passes the checks is done: the number replied is the first check's that applies, and 0 where none does
+  pub numbered : (q : Request) → stepped h q .reply .number ≡ verdict h q
+
+-- THE STATEMENT, proved in proofs/Guards.antt
+abbrev pub GuardsRest : Type 0
+GuardsRest = (h : House) → Reachable h → Unguarded h

@@ -1,0 +1,5 @@
+pub mod Reach
+pub mod Kept
+pub mod Guards
+pub mod Delay
+pub mod Decides

@@ -1,0 +1,4 @@
+pub mod Past
+pub mod Told
+pub mod Step
+pub mod Demand
