@@ -5,13 +5,16 @@ use native.Mathlib.Omega.{arith}
 use mathlib.Core.Path.{_≡_, refl, sym, _∙_}
 use mathlib.Core.Logic.{inl, inr}
 use mathlib.Core.Bool.{_&&_, _||_}
+use mathlib.Core.List.{List}
 use lib.Dec.{leb}
 use borrow.Author.Tests.{leb-false, lt-leb, lt-ltb}
 use Rattle.house.specs.declared.House.{House}
+use Rattle.house.specs.declared.Item.{Item}
 use Rattle.house.specs.declared.Mark.the-variants.{Write}
 use Rattle.house.specs.declared.Outcome.{Outcome}
 use Rattle.house.specs.declared.Request.{Request}
 use Rattle.house.specs.Cell.{holds}
+use Rattle.house.specs.House.{itemAt}
 use Rattle.house.specs.Rules.{usesItem, noItem, verdict, grown, readAnswer, askAnswer, replied, stepped}
 use Rattle.house.proofs.Tests.{is, same}
 use Rattle.reach.specs.Kept.{Kept}
@@ -32,15 +35,15 @@ unfolding noItem
 item-counted h b q = rw (within (h .count) (q .item) b)
 
 -- a read is done whichever pair it gives
-pub read-number : (h : House) (q : Request) (me i : ℕ) → replied q (readAnswer h me i) .number ≡ 0
+pub read-number : (q : Request) (cells : List ℕ) (x : Item) (me i : ℕ) → replied q (readAnswer cells x me i) .number ≡ 0
 unfolding readAnswer
-read-number h q me i = elim (is (holds (h .cells) Write me i)) [ inl w ↦ rw w | inr w ↦ rw w ]
+read-number q cells x me i = elim (is (holds cells Write me i)) [ inl w ↦ rw w | inr w ↦ rw w ]
 
 done-number : {h : House} {q : Request} {o : Outcome} → verdict h q ≡ 0 → Turn h q o → o .reply .number ≡ 0
 unfolding askAnswer
 done-number v (refused n) = absurd (n v)
 done-number v (begins me o K) = refl
-done-number {h} {q} v (reads me o S K) = read-number h q me _
+done-number {h} {q} v (reads me o S K) = read-number q (h .cells) (itemAt (h .items) (q .item)) me (q .item)
 done-number v (writes me o S K) = refl
 done-number v (certifies me o S K) = refl
 done-number v (commits me o S K) = refl

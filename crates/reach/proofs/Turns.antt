@@ -68,7 +68,7 @@ Asker h q me = Seated (h .places) (q .level) (q .ticket) me
 pub data Turn (h : House) (q : Request) : Outcome → Type 0 where
   refused : verdict h q ≢ 0 → Turn h q (outcome h q (Refused (verdict h q)))
   begins : (me : ℕ) → q .operation ≡ 0 → MayBegin h (q .level) me → Turn h q (outcome (begun h (q .level) me) q (Ticket (nextAt (h .next) (q .level))))
-  reads : (me : ℕ) → q .operation ≡ 1 → Asker h q me → MayRead h me (q .item) → Turn h q (outcome (readBy h me (q .item)) q (readAnswer h me (q .item)))
+  reads : (me : ℕ) → q .operation ≡ 1 → Asker h q me → MayRead h me (q .item) → Turn h q (outcome (readBy h me (q .item)) q (readAnswer (h .cells) (itemAt (h .items) (q .item)) me (q .item)))
   writes : (me : ℕ) → q .operation ≡ 2 → Asker h q me → MayWrite h me (q .item) → Turn h q (outcome (writtenBy h me (q .item) (q .value)) q Done)
   certifies : (me : ℕ) → q .operation ≡ 3 → Asker h q me → MayCertify h me → Turn h q (outcome (certifiedBy h me) q Done)
   commits : (me : ℕ) → q .operation ≡ 4 → Asker h q me → MayCommit h me → Turn h q (outcome (left (committedItem (h .cells) me) h me) q Done)
@@ -93,7 +93,7 @@ unfolding performed
 served-is h q me n a = rw (ne-eqb (q .operation) 0 n, a)
 
 module _ (h : House) (q : Request) (me : ℕ) where
-  read-is : q .operation ≡ 1 → served h q me ≡ outcome (readBy h me (q .item)) q (readAnswer h me (q .item))
+  read-is : q .operation ≡ 1 → served h q me ≡ outcome (readBy h me (q .item)) q (readAnswer (h .cells) (itemAt (h .items) (q .item)) me (q .item))
   unfolding served
   read-is o = rw o
 

@@ -13,7 +13,7 @@ use Rattle.house.specs.declared.Answer.the-variants.{Refused, Done, Ticket}
 use Rattle.house.specs.declared.House.{House}
 use Rattle.house.specs.declared.Outcome.{Outcome}
 use Rattle.house.specs.declared.Request.{Request}
-use Rattle.house.specs.House.{levelOf, placeAt, nextAt}
+use Rattle.house.specs.House.{itemAt, levelOf, placeAt, nextAt}
 use Rattle.house.specs.Rules.{read, write, commit, verdict, ticketAfter, begun, readBy, readAnswer, writtenBy, certifiedBy, left, committedItem, abortedItem, askAnswer, replied, stepped}
 use Rattle.house.proofs.Tests.{same, clash}
 use Rattle.house.proofs.Places.{Seated}
@@ -185,7 +185,7 @@ module _ {t : Table} {h : House} {past : Past} (I : Known t h past) (q : Request
         (begin-unheard K) (begin-table h l me)
 
     module _ (S : Seated (h .places) (q .level) (q .ticket) me) where
-      read-known : q .operation ≡ 1 → MayRead h me (q .item) → Known t (readBy h me (q .item)) ((q, replied q (readAnswer h me (q .item))) ∷ past)
+      read-known : q .operation ≡ 1 → MayRead h me (q .item) → Known t (readBy h me (q .item)) ((q, replied q (readAnswer (h .cells) (itemAt (h .items) (q .item)) me (q .item))) ∷ past)
       unfolding readBy
       read-known o K =
           worked I (read-frame (I .law) K) (read-own (I .law) K) (K .place) _ (S .taken) (sym (S .within .level)) (sym (S .ticket))

@@ -101,7 +101,7 @@ begin-told L K = record { writes = λ i a r. rw (clear-held _ (begin-clear L K i
 -- Read
 module _ {h : House} {me : ℕ} (L : Law h) (q : Request) (op : q .operation ≡ read) (K : MayRead h me (q .item)) (own : Past) (k : Told h me own) where
   -- what is answered is what the transaction alone would read
-  read-answer : shown own (q .item) (row (itemAt (h .items) (q .item))) ≡ answer (q, replied q (readAnswer h me (q .item)))
+  read-answer : shown own (q .item) (row (itemAt (h .items) (q .item))) ≡ answer (q, replied q (readAnswer (h .cells) (itemAt (h .items) (q .item)) me (q .item)))
   unfolding held holds readAnswer grown
   read-answer =
       let x = itemAt (h .items) (q .item) in
@@ -115,7 +115,7 @@ module _ {h : House} {me : ℕ} (L : Law h) (q : Request) (op : q .operation ≡
   unfolding readBy
   same-items j = refl
 
-  pub read-told : Told (readBy h me (q .item)) me ((q, replied q (readAnswer h me (q .item))) ∷ own)
+  pub read-told : Told (readBy h me (q .item)) me ((q, replied q (readAnswer (h .cells) (itemAt (h .items) (q .item)) me (q .item))) ∷ own)
   unfolding shown
   read-told =
       record {

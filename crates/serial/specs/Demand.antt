@@ -14,7 +14,7 @@ use Rattle.house.specs.declared.Request.{Request}
 use Rattle.house.specs.Search.{mapFrom}
 use Rattle.house.specs.Cell.{cellAt}
 use Rattle.house.specs.House.{Sizes, placeAt, isFree}
-use Rattle.house.specs.Rules.{read, write, commit, _is_, stepped}
+use Rattle.house.specs.Rules.{read, write, commit, _does_, stepped}
 use Rattle.house.specs.Opening.{opening}
 use Rattle.reach.specs.Reach.{finally}
 
@@ -31,10 +31,10 @@ trace h (q ∷ qs) = (q, stepped h q .reply) ∷ trace (stepped h q .house) qs
 
 -- the request had this operation, and was done
 abbrev pub done : Event → ℕ → Bool
-done e operation = eqb (e .1 .number) 0 && e .0 is operation
+done e operation = eqb (e .1 .number) 0 && e .0 does operation
 
 abbrev pub wrote : Event → Bool
-wrote e = e .0 is write
+wrote e = e .0 does write
 
 -- "A transaction's name is its level and ticket."
 abbrev pub Name : Type 0
