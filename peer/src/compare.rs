@@ -4,7 +4,7 @@ use crate::desk::Desk;
 use crate::generator;
 use crate::program::Program;
 use crate::progress::Progress;
-use crate::run::{output_for, Session};
+use crate::run::{output_for, Run};
 use crate::stop::Stop;
 use crate::wire::{hex, Reply, Request, REPLY_BYTES, REQUEST_BYTES};
 use crate::words;
@@ -72,9 +72,9 @@ pub fn compare(
 }
 
 fn opening_is_refused(input: &[u8]) -> bool {
-    let mut session = Session::new(Desk::answer);
-    session.feed(input);
-    session.desk().is_none()
+    let mut run = Run::new(Desk::answer);
+    run.feed(input);
+    run.desk().is_none()
 }
 
 fn compare_one(command: &str, input: &[u8], ours: &[u8]) -> Result<(), Stop> {
@@ -119,16 +119,16 @@ struct Place {
 }
 
 fn words_for_place(input: &[u8], index: usize) -> Place {
-    let mut session = Session::new(Desk::answer);
+    let mut run = Run::new(Desk::answer);
     let header_bytes = 1 + usize::from(input.first().copied().unwrap_or(0));
     let (header, requests) = input.split_at(header_bytes.min(input.len()));
-    session.feed(header);
-    if session.desk().is_none() {
+    run.feed(header);
+    if run.desk().is_none() {
         let shown = if header.is_empty() { "no bytes".to_string() } else { hex(header) };
         return Place { what: format!("the opening is refused: {shown}"), house: None };
     }
     let start = (index * REQUEST_BYTES).min(requests.len());
-    session.feed(&requests[..start]);
+    run.feed(&requests[..start]);
     let what = match requests[start..].first_chunk::<REQUEST_BYTES>() {
         Some(bytes) => {
             let request = words::request(&Request::from_bytes(bytes));
@@ -140,7 +140,7 @@ fn words_for_place(input: &[u8], index: usize) -> Place {
         }
         None => format!("after the last whole request ({index} were answered)"),
     };
-    Place { what, house: session.desk().map(words::lock_table) }
+    Place { what, house: run.desk().map(words::lock_table) }
 }
 
 fn reply_at(output: &[u8], index: usize) -> &[u8] {
@@ -199,7 +199,6 @@ mod tests {
                 output_for(&input, Desk::answer) != output_for(&input, answer)
             };
             let found = (0..40).filter(differs).count();
-            println!("{name}: {found}");
             assert!(found >= 4, "a desk that {name} was found on {found} of 40 inputs only");
         }
     }

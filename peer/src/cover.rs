@@ -3,7 +3,7 @@
 use crate::desk::{Desk, Place, Standing};
 use crate::generator;
 use crate::progress::Progress;
-use crate::run::Session;
+use crate::run::Run;
 use crate::stop::Stop;
 use crate::wire::{Operation, Reply, Request, REPLY_BYTES, REQUEST_BYTES};
 use std::io::{self, Write};
@@ -57,14 +57,14 @@ struct Counts {
 
 impl Counts {
     fn note_input(&mut self, input: &[u8]) {
-        let mut session = Session::new(Desk::answer);
+        let mut run = Run::new(Desk::answer);
         let header_bytes = 1 + usize::from(input.first().copied().unwrap_or(0));
         let (header, mut requests) = input.split_at(header_bytes.min(input.len()));
-        let mut refusal = session.feed(header);
-        if session.desk().is_some() {
+        let mut refusal = run.feed(header);
+        if run.desk().is_some() {
             self.opened += 1;
         } else {
-            refusal.extend(session.end());
+            refusal.extend(run.end());
             match refusal.first() {
                 Some(13) => self.refused_13 += 1,
                 Some(14) => self.refused_14 += 1,
@@ -74,8 +74,8 @@ impl Counts {
         }
         while let Some((bytes, rest)) = requests.split_first_chunk::<REQUEST_BYTES>() {
             let request = Request::from_bytes(bytes);
-            self.note_standing(session.desk(), &request);
-            self.note_reply(&session.feed(bytes));
+            self.note_standing(run.desk(), &request);
+            self.note_reply(&run.feed(bytes));
             requests = rest;
         }
     }

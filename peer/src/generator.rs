@@ -34,13 +34,13 @@ const MOODS: [Mood; 6] = [
 
 /// A transaction that holds no lock yet mostly takes one.
 const WHEN_FRESH: [usize; 7] = [0, 10, 8, 1, 1, 1, 1];
-/// A signalled one asks and aborts, but tries the rest as well.
-const WHEN_SIGNALLED: [usize; 7] = [0, 2, 2, 2, 3, 2, 4];
+/// A signalled one asks, tries the rest as well, and lingers, so that signals add up.
+const WHEN_SIGNALLED: [usize; 7] = [0, 2, 2, 2, 2, 1, 4];
 /// A certified one mostly commits, and now and then forgets that it is certified.
 const WHEN_CERTIFIED: [usize; 7] = [0, 1, 1, 1, 5, 1, 1];
 
-/// Old names that may come back in late requests.
-const OLD_NAMES_KEPT: usize = 40;
+/// How many tickets of ended transactions may come back in late requests.
+const OLD_TICKETS_KEPT: usize = 40;
 
 pub struct Generator {
     rng: Rng,
@@ -117,7 +117,7 @@ impl Generator {
         let was_open = self.desk.find(request.level, request.ticket).is_ok();
         self.desk.answer(request);
         if was_open && self.desk.find(request.level, request.ticket).is_err() {
-            if self.old_tickets.len() == OLD_NAMES_KEPT {
+            if self.old_tickets.len() == OLD_TICKETS_KEPT {
                 self.old_tickets.remove(0);
             }
             self.old_tickets.push(request.ticket);
@@ -185,11 +185,13 @@ impl Generator {
         let items = (0..).zip(&self.desk.items);
         let usable: Vec<u16> = items.filter(|(_, item)| may_use(item)).map(|(n, _)| n).collect();
         let level_of = |item: &u16| self.desk.items[usize::from(*item)].level;
-        let preferred: Vec<u16> = match self.rng.below(6) {
+        let preferred: Vec<u16> = match self.rng.below(16) {
             // Reads below are where signals come from.
-            0..=2 => usable.iter().filter(|item| level_of(item) < level).copied().collect(),
+            0..=5 => usable.iter().filter(|item| level_of(item) < level).copied().collect(),
             // Items that somebody is changing.
-            3 => usable.iter().filter(|item| self.is_changing(**item)).copied().collect(),
+            6..=10 => usable.iter().filter(|item| self.is_changing(**item)).copied().collect(),
+            // Items that may be forbidden.
+            11 => vec![self.rng.below(self.desk.items.len()) as u16],
             _ => Vec::new(),
         };
         let any = self.rng.below(self.desk.items.len()) as u16;
@@ -215,8 +217,8 @@ impl Generator {
     /// Changes one thing about a request, mostly for the worse.
     fn spoil(&mut self, request: &mut Request) {
         match self.rng.below(9) {
-            0 => request.operation = 7 + self.rng.below(249) as u8,
-            1 => request.level = LEVELS + self.rng.below(252) as u8,
+            0 => request.operation = at_or_above(&mut self.rng, Operation::ALL.len() as u8),
+            1 => request.level = at_or_above(&mut self.rng, LEVELS),
             2 => request.value = 1 << self.rng.below(32),
             3 => request.item = 1 << self.rng.below(16),
             // The ticket of one level used at another.
@@ -243,8 +245,8 @@ impl Generator {
 
     fn garbage(&mut self) -> Request {
         let mut bytes = [0; REQUEST_BYTES];
-        // Often the operation is one that exists, so that the rest of the garbage is looked at.
         bytes.fill_with(|| self.rng.byte());
+        // Often operation or level exists, so that the rest of the garbage is looked at.
         if self.rng.one_in(2) {
             bytes[0] %= Operation::ALL.len() as u8;
         }
@@ -252,6 +254,15 @@ impl Generator {
             bytes[1] %= LEVELS;
         }
         Request::from_bytes(&bytes)
+    }
+}
+
+/// A byte past the edge: half of the time the first one.
+fn at_or_above(rng: &mut Rng, first: u8) -> u8 {
+    if rng.one_in(2) {
+        first
+    } else {
+        first + rng.below(256 - usize::from(first)) as u8
     }
 }
 
@@ -285,10 +296,13 @@ fn spoil_header(rng: &mut Rng, header: &mut Vec<u8>) -> bool {
     let kind = rng.below(40);
     match kind {
         0 => header[0] = 0,
-        1 => header[0] = 65 + rng.below(191) as u8,
+        1 => {
+            header[0] = at_or_above(rng, MOST_ITEMS as u8 + 1);
+            header.resize_with(1 + usize::from(header[0]), || rng.below(LEVELS.into()) as u8);
+        }
         2 | 3 => {
             let spot = 1 + rng.below(header.len() - 1);
-            header[spot] = LEVELS + rng.below(252) as u8;
+            header[spot] = at_or_above(rng, LEVELS);
         }
         _ => {}
     }
@@ -352,7 +366,7 @@ mod tests {
         }
         assert_ne!(input(1, 100), input(2, 100));
         // Written down once, so that a changed generator is noticed.
-        assert_eq!(fingerprint(&input(7, 50)), 0);
+        assert_eq!(fingerprint(&input(7, 50)), 9744156497618345154);
     }
 
     fn fingerprint(bytes: &[u8]) -> u64 {

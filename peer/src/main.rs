@@ -90,10 +90,10 @@ fn dispatch(words: &[&str]) -> Result<(), Stop> {
         ["compare", ref rest @ ..] => compare_here(rest, &mut out),
         ["converse", program] => converse::converse(program, &mut out),
         ["serial", seeds, requests] => {
-            serial::serial(parse(seeds, "SEEDS")?, parse_requests(requests)?, &mut out)
+            serial::serial(parse_count(seeds, "SEEDS")?, parse_requests(requests)?, &mut out)
         }
         ["cover", seeds, requests] => {
-            cover::cover(parse(seeds, "SEEDS")?, parse_requests(requests)?, &mut out)
+            cover::cover(parse_count(seeds, "SEEDS")?, parse_requests(requests)?, &mut out)
         }
         ["talk", "--day"] => talk::day(None, out),
         ["talk", "--day", program] => talk::day(Some(program), out),
@@ -110,18 +110,18 @@ fn compare_here(words: &[&str], out: &mut impl Write) -> Result<(), Stop> {
     };
     match *words {
         ["--random", program, count] => {
-            compare::compare(program, &Inputs::Random, from, parse(count, "COUNT")?, out)
+            compare::compare(program, &Inputs::Random, from, parse_count(count, "COUNT")?, out)
         }
         [program, seeds, requests] => {
             let inputs = Inputs::Generated { requests: parse_requests(requests)? };
-            compare::compare(program, &inputs, from, parse(seeds, "SEEDS")?, out)
+            compare::compare(program, &inputs, from, parse_count(seeds, "SEEDS")?, out)
         }
         _ => Err(usage(&["compare"])),
     }
 }
 
 fn run_here(answer: Answer) -> Result<(), Stop> {
-    Ok(run::run(io::stdin().lock(), io::stdout().lock(), answer)?)
+    Ok(run::serve(io::stdin().lock(), io::stdout().lock(), answer)?)
 }
 
 fn slip(number: &str) -> Result<Answer, Stop> {
@@ -135,6 +135,14 @@ fn slip(number: &str) -> Result<Answer, Stop> {
 
 fn parse(word: &str, name: &str) -> Result<u64, Stop> {
     word.parse().map_err(|_| Stop::Cannot(format!("{name} has to be a number, not '{word}'")))
+}
+
+/// Zero inputs would pass any check, so a check of none is refused.
+fn parse_count(word: &str, name: &str) -> Result<u64, Stop> {
+    match parse(word, name)? {
+        0 => Err(Stop::Cannot(format!("{name} has to be at least 1"))),
+        count => Ok(count),
+    }
 }
 
 fn parse_requests(word: &str) -> Result<usize, Stop> {

@@ -14,16 +14,16 @@ enum State {
 }
 
 /// One run of the program, fed with input as it comes.
-pub struct Session {
+pub struct Run {
     answer: Answer,
     state: State,
     /// What has arrived and is not yet a whole header or request.
     waiting: Vec<u8>,
 }
 
-impl Session {
-    pub fn new(answer: Answer) -> Session {
-        Session { answer, state: State::Opening, waiting: Vec::new() }
+impl Run {
+    pub fn new(answer: Answer) -> Run {
+        Run { answer, state: State::Opening, waiting: Vec::new() }
     }
 
     /// The house, while there is one.
@@ -94,23 +94,23 @@ impl Session {
 
 /// All that the program writes for this whole input.
 pub fn output_for(input: &[u8], answer: Answer) -> Vec<u8> {
-    let mut session = Session::new(answer);
-    let mut output = session.feed(input);
-    output.extend(session.end());
+    let mut run = Run::new(answer);
+    let mut output = run.feed(input);
+    output.extend(run.end());
     output
 }
 
 /// Runs until the input ends or the opening is refused. Each reply leaves as soon as it is due.
-pub fn run(mut input: impl Read, mut output: impl Write, answer: Answer) -> io::Result<()> {
-    let mut session = Session::new(answer);
+pub fn serve(mut input: impl Read, mut output: impl Write, answer: Answer) -> io::Result<()> {
+    let mut run = Run::new(answer);
     let mut buffer = [0; 1 << 16];
-    while !session.is_stopped() {
+    while !run.is_stopped() {
         let replies = match input.read(&mut buffer) {
             Ok(0) => {
-                output.write_all(&session.end())?;
+                output.write_all(&run.end())?;
                 return output.flush();
             }
-            Ok(count) => session.feed(&buffer[..count]),
+            Ok(count) => run.feed(&buffer[..count]),
             Err(error) if error.kind() == io::ErrorKind::Interrupted => continue,
             Err(error) => return Err(error),
         };
@@ -160,23 +160,23 @@ mod tests {
             let input = generator::input(seed, 20);
             let whole = output_for(&input, Desk::answer);
             for size in 1..30 {
-                let mut session = Session::new(Desk::answer);
+                let mut run = Run::new(Desk::answer);
                 let mut output = Vec::new();
                 for piece in input.chunks(size) {
-                    output.extend(session.feed(piece));
+                    output.extend(run.feed(piece));
                 }
-                output.extend(session.end());
+                output.extend(run.end());
                 assert_eq!(output, whole, "seed {seed} in pieces of {size}");
             }
         }
     }
 
     #[test]
-    fn run_writes_what_the_session_says() {
+    fn the_streams_carry_the_same_bytes() {
         for seed in 0..60 {
             let input = generator::input(seed, 50);
             let mut output = Vec::new();
-            run(input.as_slice(), &mut output, Desk::answer).expect("reading from memory");
+            serve(input.as_slice(), &mut output, Desk::answer).expect("reading from memory");
             assert_eq!(output, output_for(&input, Desk::answer));
         }
     }

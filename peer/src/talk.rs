@@ -234,8 +234,8 @@ impl<'a, W: Write> Talk<'a, W> {
 
     fn sum_up(&mut self) -> Result<(), Stop> {
         if self.differences > 0 {
-            let times = self.differences;
-            let message = format!("the program was not as the peer's desk, {times} times");
+            let count = self.differences;
+            let message = format!("differences between the program and the peer's desk: {count}");
             return Err(Stop::Found(message));
         }
         if self.command.is_some() {

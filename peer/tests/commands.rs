@@ -14,6 +14,7 @@ fn peer_with_input(arguments: &[&str], input: &[u8]) -> Output {
         .args(arguments)
         .stdin(Stdio::piped())
         .stdout(Stdio::piped())
+        .stderr(Stdio::null())
         .spawn()
         .expect("the peer starts");
     child.stdin.take().expect("a pipe").write_all(input).expect("it reads");
@@ -76,6 +77,7 @@ fn wrong_usage_is_told() {
     assert_says(&["compare", "x"], 2, &["wrong usage of compare", "compare PROGRAM SEEDS N"]);
     assert_says(&["gen", "x", "1"], 2, &["SEED has to be a number"]);
     assert_says(&["gen", "1", "99999999999"], 2, &["N is at most"]);
+    assert_says(&["cover", "0", "400"], 2, &["SEEDS has to be at least 1"]);
     assert_says(&["slip", "0"], 2, &["there is no slip 0"]);
     assert_says(&["--help"], 0, &["usage: peer COMMAND"]);
 }
