@@ -24,6 +24,7 @@ pub const DAY_OUTPUT: [u8; 3 * REPLY_BYTES] = [
 const DAY_WORDS: &str = "open 0\nbegin 0\nwrite 0 #1 item 0 = 7\nread 0 #1 item 0\n";
 
 const HELP: &str = "\
+one line each:
   open 0 0 2               opens a fresh house: the level of each item, 0 to 3
   begin 0                  a new transaction at level 0; its ticket comes back
   read 0 #1 item 0         level 0, ticket 1
@@ -101,6 +102,9 @@ impl<'a, W: Write> Talk<'a, W> {
             }
             let mut bytes = Vec::new();
             if lines.read_until(b'\n', &mut bytes)? == 0 {
+                if manner == Manner::Prompt {
+                    writeln!(self.out)?;
+                }
                 return self.close_house();
             }
             let text = String::from_utf8_lossy(&bytes);

@@ -113,6 +113,7 @@ pub fn lock_table(desk: &Desk) -> String {
     for name in &names {
         let _ = write!(text, "  {name:<4}");
     }
+    text.truncate(text.trim_end().len());
     for (number, item) in desk.items.iter().enumerate() {
         let _ = write!(
             text,
