@@ -1,0 +1,205 @@
+//! Runs a program on many inputs and compares its bytes with the peer's own.
+
+use crate::desk::Desk;
+use crate::generator;
+use crate::program::Program;
+use crate::progress::Progress;
+use crate::run::{output_for, Run};
+use crate::stop::Stop;
+use crate::wire::{hex, Reply, Request, REPLY_BYTES, REQUEST_BYTES};
+use crate::words;
+use std::io::Write;
+use std::time::Duration;
+
+/// How long a program may go without writing anything or ending.
+const PATIENCE: Duration = Duration::from_secs(60);
+
+/// Which inputs are compared.
+pub enum Inputs {
+    /// `gen`'s inputs of this many requests.
+    Generated { requests: usize },
+    /// Random byte strings.
+    Random,
+}
+
+impl Inputs {
+    fn bytes(&self, seed: u64) -> Vec<u8> {
+        match self {
+            Inputs::Generated { requests } => generator::input(seed, *requests),
+            Inputs::Random => generator::random_bytes(seed),
+        }
+    }
+
+    fn how_to_make(&self, seed: u64) -> String {
+        match self {
+            Inputs::Generated { requests } => format!("peer gen {seed} {requests}"),
+            Inputs::Random => format!("peer gen --random {seed}"),
+        }
+    }
+}
+
+pub fn compare(
+    command: &str,
+    inputs: &Inputs,
+    from: u64,
+    count: u64,
+    out: &mut impl Write,
+) -> Result<(), Stop> {
+    let mut progress = Progress::new("compared", count);
+    let (mut requests, mut refused) = (0, 0);
+    for done in 0..count {
+        let seed = from.wrapping_add(done);
+        let input = inputs.bytes(seed);
+        let ours = output_for(&input, Desk::answer);
+        compare_one(command, &input, &ours).map_err(|stop| match stop {
+            Stop::Found(what) => {
+                Stop::Found(format!("input of '{}': {what}", inputs.how_to_make(seed)))
+            }
+            other => other,
+        })?;
+        if opening_is_refused(&input) {
+            refused += 1;
+        } else {
+            requests += ours.len() / REPLY_BYTES;
+        }
+        progress.tell(done + 1);
+    }
+    writeln!(
+        out,
+        "compared {count} inputs, {requests} requests, {refused} refused openings: no difference"
+    )?;
+    Ok(())
+}
+
+fn opening_is_refused(input: &[u8]) -> bool {
+    let mut run = Run::new(Desk::answer);
+    run.feed(input);
+    run.desk().is_none()
+}
+
+fn compare_one(command: &str, input: &[u8], ours: &[u8]) -> Result<(), Stop> {
+    let mut program = Program::start(command)?;
+    program.send_all_and_close(input.to_vec())?;
+    let theirs = program.receive_rest(ours.len(), PATIENCE).map_err(Stop::Found)?;
+    match explain(input, ours, &theirs) {
+        Some(difference) => Err(Stop::Found(difference)),
+        None => program.check_end().map_err(Stop::Found),
+    }
+}
+
+/// The first difference in words, if there is one.
+pub fn explain(input: &[u8], ours: &[u8], theirs: &[u8]) -> Option<String> {
+    if ours == theirs {
+        return None;
+    }
+    let same = ours.iter().zip(theirs).take_while(|(one, other)| one == other).count();
+    let index = same / REPLY_BYTES;
+    let place = words_for_place(input, index);
+    let (our_reply, their_reply) = (reply_at(ours, index), reply_at(theirs, index));
+    let mut text = format!(
+        "the outputs differ at byte {same}\n{}\n  the peer:    {}\n  the program: {}\n",
+        place.what,
+        words_for_reply(our_reply),
+        words_for_reply(their_reply),
+    );
+    if let (Some(ours), Some(theirs)) = (whole(our_reply), whole(their_reply)) {
+        let fields = words::differing_fields(("peer", &ours), ("program", &theirs));
+        text += &format!("  they differ in {fields}\n");
+    }
+    if let Some(house) = place.house {
+        text += &format!("the house before it, as the peer sees it:\n{house}");
+    }
+    Some(text)
+}
+
+/// What a reply answers, and the house it was asked in.
+struct Place {
+    what: String,
+    house: Option<String>,
+}
+
+fn words_for_place(input: &[u8], index: usize) -> Place {
+    let mut run = Run::new(Desk::answer);
+    let header_bytes = 1 + usize::from(input.first().copied().unwrap_or(0));
+    let (header, requests) = input.split_at(header_bytes.min(input.len()));
+    run.feed(header);
+    if run.desk().is_none() {
+        let shown = if header.is_empty() { "no bytes".to_string() } else { hex(header) };
+        return Place { what: format!("the opening is refused: {shown}"), house: None };
+    }
+    let start = (index * REQUEST_BYTES).min(requests.len());
+    run.feed(&requests[..start]);
+    let what = match requests[start..].first_chunk::<REQUEST_BYTES>() {
+        Some(bytes) => {
+            let request = words::request(&Request::from_bytes(bytes));
+            format!(
+                "request {} (the first is 1): {request}\n  bytes:       {}",
+                index + 1,
+                hex(bytes)
+            )
+        }
+        None => format!("after the last whole request ({index} were answered)"),
+    };
+    Place { what, house: run.desk().map(words::lock_table) }
+}
+
+fn reply_at(output: &[u8], index: usize) -> &[u8] {
+    let start = (index * REPLY_BYTES).min(output.len());
+    &output[start..(start + REPLY_BYTES).min(output.len())]
+}
+
+fn whole(reply: &[u8]) -> Option<Reply> {
+    reply.first_chunk::<REPLY_BYTES>().map(Reply::from_bytes)
+}
+
+fn words_for_reply(bytes: &[u8]) -> String {
+    match whole(bytes) {
+        Some(reply) => format!("{}  {}", hex(bytes), words::reply(&reply)),
+        None if bytes.is_empty() => "nothing".to_string(),
+        None => format!("{}  (only {} bytes of a reply)", hex(bytes), bytes.len()),
+    }
+}
+
+#[cfg(test)]
+mod tests {
+    use super::*;
+    use crate::slips::SLIPS;
+    use crate::talk::{DAY_INPUT, DAY_OUTPUT};
+
+    #[test]
+    fn equal_outputs_need_no_words() {
+        assert_eq!(explain(&DAY_INPUT, &DAY_OUTPUT, &DAY_OUTPUT), None);
+    }
+
+    #[test]
+    fn a_wrong_reply_is_put_in_words() {
+        let mut wrong = DAY_OUTPUT;
+        wrong[44] = 9;
+        let text = explain(&DAY_INPUT, &DAY_OUTPUT, &wrong).expect("a difference");
+        assert!(text.contains("request 3 (the first is 1): level 0 #1 reads item 0"), "{text}");
+        assert!(text.contains("they differ in version (peer: 1, program: 9)"), "{text}");
+    }
+
+    #[test]
+    fn missing_and_spare_bytes_are_put_in_words() {
+        let text = explain(&DAY_INPUT, &DAY_OUTPUT, &DAY_OUTPUT[..20]).expect("a difference");
+        assert!(text.contains("only 4 bytes of a reply"), "{text}");
+        let more = [&DAY_OUTPUT[..], &[1]].concat();
+        let text = explain(&DAY_INPUT, &DAY_OUTPUT, &more).expect("a difference");
+        assert!(text.contains("after the last whole request (3 were answered)"), "{text}");
+        let text = explain(&[0], &output_for(&[0], Desk::answer), &[]).expect("a difference");
+        assert!(text.contains("the opening is refused: 00"), "{text}");
+    }
+
+    #[test]
+    fn each_slip_of_the_trade_shows_in_the_bytes() {
+        for (name, answer) in SLIPS {
+            let differs = |seed: &u64| {
+                let input = generator::input(*seed, 400);
+                output_for(&input, Desk::answer) != output_for(&input, answer)
+            };
+            let found = (0..40).filter(differs).count();
+            assert!(found >= 4, "a desk that {name} was found on {found} of 40 inputs only");
+        }
+    }
+}

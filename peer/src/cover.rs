@@ -1,0 +1,216 @@
+//! Which replies the generated inputs meet: all that document 01 lets a run reach must be there.
+
+use crate::desk::{Desk, Place, Standing};
+use crate::generator;
+use crate::progress::Progress;
+use crate::run::Run;
+use crate::stop::Stop;
+use crate::wire::{Operation, Reply, Request, REPLY_BYTES, REQUEST_BYTES};
+use std::io::{self, Write};
+
+/// Rows: the operations, then all numbers above 6 together.
+const ROWS: usize = 8;
+const ROW_NAMES: [&str; ROWS] =
+    ["begin", "read", "write", "certify", "commit", "abort", "ask", "above 6"];
+/// Columns: the reply numbers that a request can get.
+const NUMBERS: usize = 13;
+
+/// The numbers each operation can get in a run. A number is missing where its row in document
+/// 01's table names another operation, or a field that the operation does not have.
+const REACHABLE: [&[u8]; ROWS] = [
+    // Begin names no transaction and no item (no 6, 7, 8, 2, 9) and takes no lock (no 1).
+    &[0, 4, 5, 11],
+    &[0, 1, 2, 4, 5, 6, 7, 8, 9],
+    // Write uses every field, so none is left to be 5.
+    &[0, 1, 2, 4, 6, 7, 8, 9],
+    // Certify, commit, abort and ask name no item (no 7, 8).
+    &[0, 1, 2, 4, 5, 6, 9],
+    // A commit is never delayed: its locks were settled by the certify.
+    &[0, 2, 4, 5, 6, 9],
+    // Abort and ask work whether or not signalled or certified (no 2, 9).
+    &[0, 4, 5, 6],
+    &[0, 4, 5, 6],
+    // The operation is checked before anything else.
+    &[3],
+];
+
+/// Possible by document 01, but no run on the wire gets there in practice.
+const OUT_OF_REACH: [(Operation, u8, &str); 2] = [
+    (Operation::Write, 10, "takes 4,294,967,295 commits of writes to one item"),
+    (Operation::Begin, 12, "takes 4,294,967,295 begins at one level"),
+];
+
+/// Standings a requester can be in; every operation that names it should meet each.
+const STANDINGS: [&str; 4] = ["active", "active, signalled", "certified", "certified, signalled"];
+
+#[derive(Default)]
+struct Counts {
+    replies: [[u64; NUMBERS]; ROWS],
+    /// By operation and standing of the transaction that the request names.
+    standings: [[u64; STANDINGS.len()]; ROWS],
+    opened: u64,
+    refused_13: u64,
+    refused_14: u64,
+    /// Replies that no reading of document 01 allows.
+    strange: u64,
+}
+
+impl Counts {
+    fn note_input(&mut self, input: &[u8]) {
+        let mut run = Run::new(Desk::answer);
+        let header_bytes = 1 + usize::from(input.first().copied().unwrap_or(0));
+        let (header, mut requests) = input.split_at(header_bytes.min(input.len()));
+        let mut refusal = run.feed(header);
+        if run.desk().is_some() {
+            self.opened += 1;
+        } else {
+            refusal.extend(run.end());
+            match refusal.first() {
+                Some(13) => self.refused_13 += 1,
+                Some(14) => self.refused_14 += 1,
+                _ => self.strange += 1,
+            }
+            return;
+        }
+        while let Some((bytes, rest)) = requests.split_first_chunk::<REQUEST_BYTES>() {
+            let request = Request::from_bytes(bytes);
+            self.note_standing(run.desk(), &request);
+            self.note_reply(&run.feed(bytes));
+            requests = rest;
+        }
+    }
+
+    fn note_standing(&mut self, desk: Option<&Desk>, request: &Request) {
+        let Some(desk) = desk else { return };
+        if let Ok(place) = desk.find(request.level, request.ticket) {
+            let row = usize::from(request.operation).min(ROWS - 1);
+            self.standings[row][standing(&desk.places[place])] += 1;
+        }
+    }
+
+    fn note_reply(&mut self, bytes: &[u8]) {
+        let Some(reply) = bytes.first_chunk::<REPLY_BYTES>().map(Reply::from_bytes) else {
+            self.strange += 1;
+            return;
+        };
+        let row = usize::from(reply.operation).min(ROWS - 1);
+        match self.replies[row].get_mut(usize::from(reply.number)) {
+            Some(count) => *count += 1,
+            None => self.strange += 1,
+        }
+    }
+
+    /// What should have been met and was not, or should never be and was.
+    fn faults(&self) -> Vec<String> {
+        let mut faults = Vec::new();
+        for (row, name) in ROW_NAMES.iter().enumerate() {
+            for (number, &count) in (0..).zip(&self.replies[row]) {
+                match (REACHABLE[row].contains(&number), count) {
+                    (true, 0) => faults.push(format!("{name} was never answered {number}")),
+                    (false, 1..) => faults.push(format!("{name} cannot be answered {number}")),
+                    _ => {}
+                }
+            }
+        }
+        for operation in Operation::ALL.into_iter().filter(|operation| operation.uses_ticket()) {
+            let counts = self.standings[usize::from(operation.number())];
+            for (name, _) in STANDINGS.iter().zip(counts).filter(|(_, count)| *count == 0) {
+                faults.push(format!("no {} came from a transaction {name}", operation.name()));
+            }
+        }
+        let openings = [
+            ("opened", self.opened),
+            ("refused 13", self.refused_13),
+            ("refused 14", self.refused_14),
+        ];
+        for (name, _) in openings.iter().filter(|(_, count)| *count == 0) {
+            faults.push(format!("no house was {name}"));
+        }
+        if self.strange > 0 {
+            faults.push(format!("{} replies have a number nobody may give", self.strange));
+        }
+        faults
+    }
+
+    fn print(&self, out: &mut impl Write) -> io::Result<()> {
+        writeln!(
+            out,
+            "openings: {} opened, {} refused 13, {} refused 14",
+            self.opened, self.refused_13, self.refused_14
+        )?;
+        writeln!(
+            out,
+            "\nreplies by operation and number (. cannot be, far: out of reach in a run)"
+        )?;
+        write!(out, "{:<8}", "")?;
+        for number in 0..NUMBERS {
+            write!(out, "{number:>8}")?;
+        }
+        for (row, name) in ROW_NAMES.iter().enumerate() {
+            write!(out, "\n{name:<8}")?;
+            for (number, &count) in (0..).zip(&self.replies[row]) {
+                write!(out, "{:>8}", count_or_mark(row, number, count))?;
+            }
+        }
+        writeln!(out)?;
+        for (operation, number, why) in OUT_OF_REACH {
+            writeln!(out, "far: {} answered {number} {why}", operation.name())?;
+        }
+        writeln!(out, "\nrequests by operation and standing of the transaction named")?;
+        for operation in Operation::ALL.into_iter().filter(|operation| operation.uses_ticket()) {
+            let counts = self.standings[usize::from(operation.number())];
+            let cells = STANDINGS.iter().zip(counts).map(|(name, count)| format!("{name} {count}"));
+            writeln!(out, "{:<8}{}", operation.name(), cells.collect::<Vec<_>>().join("; "))?;
+        }
+        Ok(())
+    }
+}
+
+fn standing(place: &Place) -> usize {
+    let certified = usize::from(place.standing == Standing::Certified);
+    2 * certified + usize::from(!place.signalled().is_empty())
+}
+
+fn count_or_mark(row: usize, number: u8, count: u64) -> String {
+    let is_far = |&(operation, far, _): &(Operation, u8, &str)| {
+        usize::from(operation.number()) == row && far == number
+    };
+    if count > 0 || REACHABLE[row].contains(&number) {
+        count.to_string()
+    } else if OUT_OF_REACH.iter().any(is_far) {
+        "far".to_string()
+    } else {
+        ".".to_string()
+    }
+}
+
+pub fn cover(seeds: u64, requests: usize, out: &mut impl Write) -> Result<(), Stop> {
+    let mut progress = Progress::new("counted", seeds);
+    let mut counts = Counts::default();
+    for seed in 0..seeds {
+        counts.note_input(&generator::input(seed, requests));
+        progress.tell(seed + 1);
+    }
+    counts.print(out)?;
+    let faults = counts.faults();
+    if !faults.is_empty() {
+        return Err(Stop::Found(faults.join("\n")));
+    }
+    writeln!(out, "\ncovered: every reply that a run can reach was met")?;
+    Ok(())
+}
+
+#[cfg(test)]
+mod tests {
+    use super::*;
+
+    #[test]
+    fn enough_inputs_meet_everything() {
+        assert!(cover(150, 300, &mut io::sink()).is_ok());
+    }
+
+    #[test]
+    fn too_few_inputs_are_noticed() {
+        assert!(matches!(cover(1, 3, &mut io::sink()), Err(Stop::Found(_))));
+    }
+}

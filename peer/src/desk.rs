@@ -1,0 +1,308 @@
+//! The desk: the house of document 01 and its rules, written as plainly as they stand there.
+
+use crate::wire::{Operation, Reply, Request};
+use std::collections::BTreeMap;
+
+#[cfg(test)]
+mod tests;
+
+pub const LEVELS: u8 = 4;
+pub const PLACES_PER_LEVEL: usize = 8;
+pub const MOST_ITEMS: usize = 64;
+
+/// The reply numbers other than 0 (done).
+#[derive(Clone, Copy, Debug, PartialEq, Eq)]
+pub enum Refusal {
+    Delayed = 1,
+    Signalled = 2,
+    NoSuchOperation = 3,
+    NoSuchLevel = 4,
+    UnusedNotZero = 5,
+    NoTransaction = 6,
+    NoItem = 7,
+    WrongLevel = 8,
+    WrongTime = 9,
+    VersionsSpent = 10,
+    PlacesTaken = 11,
+    TicketsSpent = 12,
+    ItemCount = 13,
+    LevelByte = 14,
+}
+
+impl Refusal {
+    pub fn number(self) -> u8 {
+        self as u8
+    }
+}
+
+#[derive(Clone, Debug, PartialEq, Eq)]
+pub struct Item {
+    pub level: u8,
+    pub value: u32,
+    pub version: u32,
+    pub pending: u32,
+}
+
+#[derive(Clone, Copy, Debug, Default, PartialEq, Eq)]
+pub struct Cell {
+    pub read: bool,
+    pub write: bool,
+    pub certify: bool,
+    pub signalled: bool,
+}
+
+#[derive(Clone, Copy, Debug, PartialEq, Eq)]
+pub enum Standing {
+    Free,
+    Active,
+    Certified,
+}
+
+/// One of the eight places of a level, with the cells of its transaction by item.
+/// An item that is not in the map has a clear cell.
+#[derive(Clone, Debug, PartialEq, Eq)]
+pub struct Place {
+    pub level: u8,
+    pub standing: Standing,
+    pub ticket: u32,
+    pub cells: BTreeMap<usize, Cell>,
+}
+
+impl Place {
+    fn free(level: u8) -> Place {
+        Place { level, standing: Standing::Free, ticket: 0, cells: BTreeMap::new() }
+    }
+
+    pub fn is_taken(&self) -> bool {
+        self.standing != Standing::Free
+    }
+
+    pub fn cell(&self, item: usize) -> Cell {
+        self.cells.get(&item).copied().unwrap_or_default()
+    }
+
+    pub fn cell_mut(&mut self, item: usize) -> &mut Cell {
+        self.cells.entry(item).or_default()
+    }
+
+    fn items_where(&self, marked: impl Fn(&Cell) -> bool) -> Vec<usize> {
+        self.cells.iter().filter(|(_, cell)| marked(cell)).map(|(&item, _)| item).collect()
+    }
+
+    pub fn written(&self) -> Vec<usize> {
+        self.items_where(|cell| cell.write)
+    }
+
+    pub fn signalled(&self) -> Vec<usize> {
+        self.items_where(|cell| cell.signalled)
+    }
+}
+
+/// The desk with the one house it keeps.
+#[derive(Clone, Debug, PartialEq, Eq)]
+pub struct Desk {
+    pub items: Vec<Item>,
+    /// Eight places for each level, level 0 first.
+    pub places: Vec<Place>,
+    pub next_ticket: [Option<u32>; LEVELS as usize],
+}
+
+impl Desk {
+    pub fn open(levels: &[u8]) -> Result<Desk, Refusal> {
+        if levels.is_empty() || levels.len() > MOST_ITEMS {
+            return Err(Refusal::ItemCount);
+        }
+        if levels.iter().any(|&level| level >= LEVELS) {
+            return Err(Refusal::LevelByte);
+        }
+        let fresh = |&level: &u8| Item { level, value: 0, version: 0, pending: 0 };
+        let places_of = |level| vec![Place::free(level); PLACES_PER_LEVEL];
+        Ok(Desk {
+            items: levels.iter().map(fresh).collect(),
+            places: (0..LEVELS).flat_map(places_of).collect(),
+            next_ticket: [Some(1); LEVELS as usize],
+        })
+    }
+
+    /// One request, one reply. Any reply but done leaves the house as it was.
+    pub fn answer(&mut self, request: &Request) -> Reply {
+        match self.serve(request) {
+            Ok(done) => done,
+            Err(refusal) => Reply { number: refusal.number(), ..Reply::repeating(request) },
+        }
+    }
+
+    /// The checks of every request come first (3, 4, 5); each operation goes on in the order
+    /// 6, 7, 8, 2, 9, 10, 11, 12, 1 with those that concern it.
+    fn serve(&mut self, request: &Request) -> Result<Reply, Refusal> {
+        let operation =
+            Operation::from_number(request.operation).ok_or(Refusal::NoSuchOperation)?;
+        if request.level >= LEVELS {
+            return Err(Refusal::NoSuchLevel);
+        }
+        if !unused_fields_are_zero(operation, request) {
+            return Err(Refusal::UnusedNotZero);
+        }
+        match operation {
+            Operation::Begin => self.begin(request),
+            Operation::Read => self.read(request),
+            Operation::Write => self.write(request),
+            Operation::Certify => self.certify(request),
+            Operation::Commit => self.commit(request),
+            Operation::Abort => self.abort(request),
+            Operation::Ask => self.ask(request),
+        }
+    }
+
+    fn begin(&mut self, request: &Request) -> Result<Reply, Refusal> {
+        let level = request.level;
+        let place = self
+            .places
+            .iter_mut()
+            .find(|place| place.level == level && !place.is_taken())
+            .ok_or(Refusal::PlacesTaken)?;
+        let next_ticket = &mut self.next_ticket[usize::from(level)];
+        let ticket = next_ticket.ok_or(Refusal::TicketsSpent)?;
+        *next_ticket = ticket.checked_add(1);
+        place.standing = Standing::Active;
+        place.ticket = ticket;
+        Ok(Reply { ticket, ..Reply::repeating(request) })
+    }
+
+    fn read(&mut self, request: &Request) -> Result<Reply, Refusal> {
+        let me = self.find(request.level, request.ticket)?;
+        let number = usize::from(request.item);
+        let item = self.items.get(number).ok_or(Refusal::NoItem)?;
+        if item.level > request.level {
+            return Err(Refusal::WrongLevel);
+        }
+        self.check_unsignalled(me)?;
+        self.check_standing(me, Standing::Active)?;
+        if self.others(me).any(|other| other.cell(number).certify) {
+            return Err(Refusal::Delayed);
+        }
+        // The lock decides whose value is read, not the pending value: a written 0 is a value.
+        let (value, version) = if self.places[me].cell(number).write {
+            (item.pending, item.version.saturating_add(1))
+        } else {
+            (item.value, item.version)
+        };
+        self.places[me].cell_mut(number).read = true;
+        Ok(Reply { value, version, ..Reply::repeating(request) })
+    }
+
+    fn write(&mut self, request: &Request) -> Result<Reply, Refusal> {
+        let me = self.find(request.level, request.ticket)?;
+        let number = usize::from(request.item);
+        let item = self.items.get(number).ok_or(Refusal::NoItem)?;
+        if item.level != request.level {
+            return Err(Refusal::WrongLevel);
+        }
+        self.check_unsignalled(me)?;
+        self.check_standing(me, Standing::Active)?;
+        if item.version == u32::MAX {
+            return Err(Refusal::VersionsSpent);
+        }
+        let in_the_way = |cell: Cell| cell.write || cell.certify;
+        if self.others(me).any(|other| in_the_way(other.cell(number))) {
+            return Err(Refusal::Delayed);
+        }
+        self.places[me].cell_mut(number).write = true;
+        self.items[number].pending = request.value;
+        Ok(Reply::repeating(request))
+    }
+
+    fn certify(&mut self, request: &Request) -> Result<Reply, Refusal> {
+        let me = self.find(request.level, request.ticket)?;
+        self.check_unsignalled(me)?;
+        self.check_standing(me, Standing::Active)?;
+        let level = request.level;
+        let written = self.places[me].written();
+        let reads_one = |other: &Place| written.iter().any(|&item| other.cell(item).read);
+        if self.others(me).any(|other| other.level == level && reads_one(other)) {
+            return Err(Refusal::Delayed);
+        }
+        for &item in &written {
+            let cell = self.places[me].cell_mut(item);
+            cell.write = false;
+            cell.certify = true;
+            for above in self.places.iter_mut().filter(|place| place.level > level) {
+                if above.cell(item).read {
+                    above.cell_mut(item).signalled = true;
+                }
+            }
+        }
+        self.places[me].standing = Standing::Certified;
+        Ok(Reply::repeating(request))
+    }
+
+    fn commit(&mut self, request: &Request) -> Result<Reply, Refusal> {
+        let me = self.find(request.level, request.ticket)?;
+        self.check_unsignalled(me)?;
+        self.check_standing(me, Standing::Certified)?;
+        for number in self.places[me].items_where(|cell| cell.certify) {
+            let item = &mut self.items[number];
+            item.value = item.pending;
+            item.version = item.version.saturating_add(1);
+            item.pending = 0;
+        }
+        self.places[me] = Place::free(request.level);
+        Ok(Reply::repeating(request))
+    }
+
+    fn abort(&mut self, request: &Request) -> Result<Reply, Refusal> {
+        let me = self.find(request.level, request.ticket)?;
+        for number in self.places[me].items_where(|cell| cell.write || cell.certify) {
+            self.items[number].pending = 0;
+        }
+        self.places[me] = Place::free(request.level);
+        Ok(Reply::repeating(request))
+    }
+
+    fn ask(&self, request: &Request) -> Result<Reply, Refusal> {
+        let me = self.find(request.level, request.ticket)?;
+        let signalled = self.places[me].signalled();
+        let lowest = signalled.first().copied().unwrap_or(0);
+        Ok(Reply {
+            item: lowest as u16,
+            value: signalled.len() as u32,
+            ..Reply::repeating(request)
+        })
+    }
+
+    /// The place of the open transaction with this name.
+    pub fn find(&self, level: u8, ticket: u32) -> Result<usize, Refusal> {
+        self.places
+            .iter()
+            .position(|place| place.is_taken() && place.level == level && place.ticket == ticket)
+            .ok_or(Refusal::NoTransaction)
+    }
+
+    /// The open transactions other than the one at place `me`, whose own locks never conflict.
+    fn others(&self, me: usize) -> impl Iterator<Item = &Place> {
+        let is_other = move |(index, place): &(usize, &Place)| *index != me && place.is_taken();
+        self.places.iter().enumerate().filter(is_other).map(|(_, place)| place)
+    }
+
+    fn check_unsignalled(&self, me: usize) -> Result<(), Refusal> {
+        if self.places[me].signalled().is_empty() {
+            Ok(())
+        } else {
+            Err(Refusal::Signalled)
+        }
+    }
+
+    fn check_standing(&self, me: usize, wanted: Standing) -> Result<(), Refusal> {
+        if self.places[me].standing == wanted {
+            Ok(())
+        } else {
+            Err(Refusal::WrongTime)
+        }
+    }
+}
+
+fn unused_fields_are_zero(operation: Operation, request: &Request) -> bool {
+    (operation.uses_item() || request.item == 0)
+        && (operation.uses_ticket() || request.ticket == 0)
+        && (operation.uses_value() || request.value == 0)
+}

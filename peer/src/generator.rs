@@ -1,0 +1,395 @@
+//! Makes inputs. It keeps a desk of its own while it writes, so that most requests mean something
+//! in the house as it stands: contended items, signals, full levels, old tickets.
+
+use crate::desk::{Desk, Item, Place, Standing, LEVELS, MOST_ITEMS};
+use crate::rng::Rng;
+use crate::wire::{Operation, Request, REQUEST_BYTES};
+
+/// What most requests of a stretch are about.
+struct Mood {
+    /// How many requests of a hundred are begins.
+    begins: usize,
+    /// How often a transaction at work asks for each operation, in the order of their numbers.
+    weights: [usize; 7],
+    /// How many of the items it may use are sought.
+    items: usize,
+    /// How many of the open transactions are at work.
+    crowd: usize,
+}
+
+const MOODS: [Mood; 6] = [
+    // The places fill up.
+    Mood { begins: 60, weights: [0, 6, 4, 1, 1, 1, 1], items: 4, crowd: 32 },
+    // A few seek the same few items.
+    Mood { begins: 10, weights: [0, 6, 10, 4, 1, 1, 1], items: 4, crowd: 5 },
+    // Readers spread over the house.
+    Mood { begins: 8, weights: [0, 16, 2, 2, 1, 1, 2], items: MOST_ITEMS, crowd: 12 },
+    // Writers certify with few readers beside them, so that readers above are signalled.
+    Mood { begins: 8, weights: [0, 2, 8, 8, 1, 1, 1], items: 4, crowd: 8 },
+    // Work is brought to its end.
+    Mood { begins: 8, weights: [0, 2, 3, 10, 2, 2, 1], items: 8, crowd: 16 },
+    // The house empties.
+    Mood { begins: 4, weights: [0, 1, 1, 6, 1, 8, 1], items: 3, crowd: 32 },
+];
+
+/// A transaction that holds no lock yet mostly takes one.
+const WHEN_FRESH: [usize; 7] = [0, 10, 8, 1, 1, 1, 1];
+/// A signalled one asks, tries the rest as well, and lingers, so that signals add up.
+const WHEN_SIGNALLED: [usize; 7] = [0, 2, 2, 2, 2, 1, 4];
+/// A certified one mostly commits, and now and then forgets that it is certified.
+const WHEN_CERTIFIED: [usize; 7] = [0, 1, 1, 1, 5, 1, 1];
+
+/// How many tickets of ended transactions may come back in late requests.
+const OLD_TICKETS_KEPT: usize = 40;
+
+pub struct Generator {
+    rng: Rng,
+    desk: Desk,
+    mood: &'static Mood,
+    requests_left_in_mood: usize,
+    /// The level where most begins of the stretch happen.
+    busy_level: u8,
+    /// Where among the open transactions the crowd of the stretch starts.
+    crowd_start: usize,
+    /// Tickets of transactions that have ended.
+    old_tickets: Vec<u32>,
+}
+
+impl Generator {
+    /// A generator with a house that is opened, whatever the seed.
+    pub fn new(seed: u64) -> Generator {
+        let mut rng = Rng::new(seed);
+        let desk = proper_house(&mut rng);
+        Generator::with_house(rng, desk)
+    }
+
+    fn with_house(rng: Rng, desk: Desk) -> Generator {
+        Generator {
+            rng,
+            desk,
+            mood: &MOODS[0],
+            requests_left_in_mood: 0,
+            busy_level: 0,
+            crowd_start: 0,
+            old_tickets: Vec::new(),
+        }
+    }
+
+    /// The house after all requests made so far.
+    pub fn desk(&self) -> &Desk {
+        &self.desk
+    }
+
+    pub fn next_request(&mut self) -> Request {
+        if self.requests_left_in_mood == 0 {
+            self.change_mood();
+        }
+        self.requests_left_in_mood -= 1;
+        let mut request = self.sensible_request();
+        match self.rng.below(40) {
+            0..=4 => self.spoil(&mut request),
+            // Several faults at once show which check comes first.
+            5..=6 => (0..2 + self.rng.below(2)).for_each(|_| self.spoil(&mut request)),
+            7 => request = self.garbage(),
+            _ => {}
+        }
+        self.follow(&request);
+        request
+    }
+
+    fn change_mood(&mut self) {
+        self.mood = &MOODS[self.rng.below(MOODS.len())];
+        self.requests_left_in_mood = 10 + self.rng.below(60);
+        self.busy_level = self.level_with_items();
+        self.crowd_start = self.rng.below(self.desk.places.len());
+    }
+
+    /// A level that has items, or one above it that may read them.
+    fn level_with_items(&mut self) -> u8 {
+        let item = self.rng.below(self.desk.items.len());
+        let level = self.desk.items[item].level;
+        let above = if self.rng.one_in(2) { self.rng.below((LEVELS - level).into()) } else { 0 };
+        level + above as u8
+    }
+
+    /// Keeps the desk up with the request, and remembers tickets that end with it.
+    fn follow(&mut self, request: &Request) {
+        let was_open = self.desk.find(request.level, request.ticket).is_ok();
+        self.desk.answer(request);
+        if was_open && self.desk.find(request.level, request.ticket).is_err() {
+            if self.old_tickets.len() == OLD_TICKETS_KEPT {
+                self.old_tickets.remove(0);
+            }
+            self.old_tickets.push(request.ticket);
+        }
+    }
+
+    fn sensible_request(&mut self) -> Request {
+        let begins = self.rng.below(100) < self.mood.begins;
+        let Some(place) = self.place_at_work().filter(|_| !begins) else {
+            let level = match self.rng.below(16) {
+                0 => self.rng.below(LEVELS.into()) as u8,
+                1..=7 => self.level_with_items(),
+                _ => self.busy_level,
+            };
+            return Request { operation: Operation::Begin.number(), level, ..Request::default() };
+        };
+        let Place { level, ticket, .. } = self.desk.places[place];
+        let operation = self.next_operation(place);
+        let mut request =
+            Request { operation: operation.number(), level, ticket, ..Request::default() };
+        if operation.uses_item() {
+            request.item = self.item_for(operation, level);
+        }
+        if operation.uses_value() {
+            request.value = self.value();
+        }
+        request
+    }
+
+    /// The place of one of the crowd, if anybody is there.
+    fn place_at_work(&mut self) -> Option<usize> {
+        let places = 0..self.desk.places.len();
+        let open: Vec<usize> = places.filter(|&place| self.desk.places[place].is_taken()).collect();
+        let index = self.crowd_start + self.rng.below(self.mood.crowd);
+        open.get(index % open.len().max(1)).copied()
+    }
+
+    fn next_operation(&mut self, place: usize) -> Operation {
+        let place = &self.desk.places[place];
+        let weights = if !place.signalled().is_empty() {
+            &WHEN_SIGNALLED
+        } else if place.standing == Standing::Certified {
+            &WHEN_CERTIFIED
+        } else if place.cells.is_empty() {
+            &WHEN_FRESH
+        } else {
+            &self.mood.weights
+        };
+        let level = place.level;
+        let operation = Operation::ALL[self.rng.weighted(weights)];
+        let can_write = self.desk.items.iter().any(|item| item.level == level);
+        if operation == Operation::Write && !can_write {
+            Operation::Read
+        } else {
+            operation
+        }
+    }
+
+    /// An item that the level may use, or any when it has none.
+    fn item_for(&mut self, operation: Operation, level: u8) -> u16 {
+        let may_use = |item: &Item| match operation {
+            Operation::Write => item.level == level,
+            _ => item.level <= level,
+        };
+        let items = (0..).zip(&self.desk.items);
+        let usable: Vec<u16> = items.filter(|(_, item)| may_use(item)).map(|(n, _)| n).collect();
+        let level_of = |item: &u16| self.desk.items[usize::from(*item)].level;
+        let preferred: Vec<u16> = match self.rng.below(16) {
+            // Reads below are where signals come from.
+            0..=5 => usable.iter().filter(|item| level_of(item) < level).copied().collect(),
+            // Items that somebody is changing.
+            6..=10 => usable.iter().filter(|item| self.is_changing(**item)).copied().collect(),
+            // Items that may be forbidden.
+            11 => vec![self.rng.below(self.desk.items.len()) as u16],
+            _ => Vec::new(),
+        };
+        let any = self.rng.below(self.desk.items.len()) as u16;
+        let sought = if preferred.is_empty() { usable } else { preferred };
+        self.rng.pick(&sought[..sought.len().min(self.mood.items)]).unwrap_or(any)
+    }
+
+    fn is_changing(&self, item: u16) -> bool {
+        let mut cells = self.desk.places.iter().map(|place| place.cell(item.into()));
+        cells.any(|cell| cell.write || cell.certify)
+    }
+
+    /// Written values: 0 is one of them, and so is the largest.
+    fn value(&mut self) -> u32 {
+        match self.rng.below(8) {
+            0 => 0,
+            1 => u32::MAX,
+            2..=5 => self.rng.below(100) as u32,
+            _ => self.rng.next() as u32,
+        }
+    }
+
+    /// Changes one thing about a request, mostly for the worse.
+    fn spoil(&mut self, request: &mut Request) {
+        match self.rng.below(9) {
+            0 => request.operation = at_or_above(&mut self.rng, Operation::ALL.len() as u8),
+            1 => request.level = at_or_above(&mut self.rng, LEVELS),
+            2 => request.value = 1 << self.rng.below(32),
+            3 => request.item = 1 << self.rng.below(16),
+            // The ticket of one level used at another.
+            4 => request.level = self.rng.below(LEVELS.into()) as u8,
+            5 => request.operation = self.rng.below(Operation::ALL.len()) as u8,
+            6 => request.item = self.strange_item(),
+            7 => request.item = self.rng.below(self.desk.items.len()) as u16,
+            _ => request.ticket = self.strange_ticket(request.level),
+        }
+    }
+
+    fn strange_item(&mut self) -> u16 {
+        let count = self.desk.items.len() as u16;
+        let any = self.rng.next() as u16;
+        self.rng.pick(&[count, count + 1, 64, 256, u16::MAX, any]).unwrap_or(any)
+    }
+
+    fn strange_ticket(&mut self, level: u8) -> u32 {
+        let any = self.rng.next() as u32;
+        let old = self.rng.pick(&self.old_tickets).unwrap_or(0);
+        let next = self.desk.next_ticket.get(usize::from(level)).copied().flatten().unwrap_or(0);
+        self.rng.pick(&[0, old, old, old, next, 256, any]).unwrap_or(any)
+    }
+
+    fn garbage(&mut self) -> Request {
+        let mut bytes = [0; REQUEST_BYTES];
+        bytes.fill_with(|| self.rng.byte());
+        // Often operation or level exists, so that the rest of the garbage is looked at.
+        if self.rng.one_in(2) {
+            bytes[0] %= Operation::ALL.len() as u8;
+        }
+        if self.rng.one_in(2) {
+            bytes[1] %= LEVELS;
+        }
+        Request::from_bytes(&bytes)
+    }
+}
+
+/// A byte past the edge: half of the time the first one.
+fn at_or_above(rng: &mut Rng, first: u8) -> u8 {
+    if rng.one_in(2) {
+        first
+    } else {
+        first + rng.below(256 - usize::from(first)) as u8
+    }
+}
+
+fn proper_levels(rng: &mut Rng) -> Vec<u8> {
+    let few = 1 + rng.below(10);
+    let many = 1 + rng.below(MOST_ITEMS);
+    let count = rng.pick(&[few, few, few, many, many, MOST_ITEMS]).unwrap_or(few);
+    // Mostly all four levels; sometimes only some of them have items.
+    let lowest = if rng.one_in(6) { rng.below(4) } else { 0 };
+    let span = if rng.one_in(3) { 1 + rng.below(4 - lowest) } else { 4 - lowest };
+    (0..count).map(|_| (lowest + rng.below(span)) as u8).collect()
+}
+
+fn proper_house(rng: &mut Rng) -> Desk {
+    loop {
+        if let Ok(desk) = Desk::open(&proper_levels(rng)) {
+            return desk;
+        }
+    }
+}
+
+/// The bytes that open a house with the items of this one.
+pub fn header_of(desk: &Desk) -> Vec<u8> {
+    let levels = desk.items.iter().map(|item| item.level);
+    std::iter::once(desk.items.len() as u8).chain(levels).collect()
+}
+
+/// One header in eight is spoiled: no items, too many, a byte above 3, or cut short.
+/// Says whether the input ends with it.
+fn spoil_header(rng: &mut Rng, header: &mut Vec<u8>) -> bool {
+    let kind = rng.below(40);
+    match kind {
+        0 => header[0] = 0,
+        1 => {
+            header[0] = at_or_above(rng, MOST_ITEMS as u8 + 1);
+            header.resize_with(1 + usize::from(header[0]), || rng.below(LEVELS.into()) as u8);
+        }
+        2 | 3 => {
+            let spot = 1 + rng.below(header.len() - 1);
+            header[spot] = at_or_above(rng, LEVELS);
+        }
+        _ => {}
+    }
+    // Levels cut short are refused as such, also where a byte above 3 stands among them.
+    let is_cut = kind == 3 || kind == 4;
+    if is_cut {
+        header.truncate(rng.below(header.len()));
+    }
+    is_cut
+}
+
+/// The whole input of a seed: a header and `requests` requests, sometimes with an unfinished one
+/// at the end. Requests follow a refused opening too, to see that nobody answers them.
+pub fn input(seed: u64, requests: usize) -> Vec<u8> {
+    let mut rng = Rng::new(seed);
+    let desk = proper_house(&mut rng);
+    let mut bytes = header_of(&desk);
+    if spoil_header(&mut rng, &mut bytes) {
+        return bytes;
+    }
+    let unfinished = if rng.one_in(4) { 1 + rng.below(REQUEST_BYTES - 1) } else { 0 };
+    let mut generator = Generator::with_house(rng, desk);
+    for _ in 0..requests {
+        bytes.extend_from_slice(&generator.next_request().to_bytes());
+    }
+    bytes.extend_from_slice(&generator.next_request().to_bytes()[..unfinished]);
+    bytes
+}
+
+/// The longest byte string of `random_bytes`.
+pub const LONGEST_RANDOM: usize = 4096;
+
+/// A random byte string. Even seeds step through all lengths from 0 up, odd ones take any length.
+/// A third are any bytes; a third are small bytes, which make openings and operations likely;
+/// a third open a house and go on with any bytes.
+pub fn random_bytes(seed: u64) -> Vec<u8> {
+    let mut rng = Rng::new(!seed);
+    let lengths = LONGEST_RANDOM + 1;
+    let length = if seed & 1 == 0 { (seed / 2) as usize % lengths } else { rng.below(lengths) };
+    let mut bytes: Vec<u8> = match rng.below(3) {
+        0 => (0..length).map(|_| rng.byte()).collect(),
+        1 => (0..length).map(|_| rng.below(4) as u8 * rng.below(3) as u8).collect(),
+        _ => {
+            let header = header_of(&proper_house(&mut rng));
+            header.into_iter().chain((0..length).map(|_| rng.byte())).collect()
+        }
+    };
+    bytes.truncate(length);
+    bytes
+}
+
+#[cfg(test)]
+mod tests {
+    use super::*;
+
+    #[test]
+    fn a_seed_always_means_the_same_input() {
+        for seed in [0, 1, 17, u64::MAX] {
+            assert_eq!(input(seed, 100), input(seed, 100));
+            assert_eq!(random_bytes(seed), random_bytes(seed));
+        }
+        assert_ne!(input(1, 100), input(2, 100));
+        // Written down once, so that a changed generator is noticed.
+        assert_eq!(fingerprint(&input(7, 50)), 9744156497618345154);
+    }
+
+    fn fingerprint(bytes: &[u8]) -> u64 {
+        bytes.iter().fold(5381, |sum: u64, &byte| sum.wrapping_mul(33) ^ u64::from(byte))
+    }
+
+    #[test]
+    fn random_strings_have_every_length() {
+        for length in 0..=LONGEST_RANDOM {
+            assert_eq!(random_bytes(2 * length as u64).len(), length);
+            assert!(random_bytes(2 * length as u64 + 1).len() <= LONGEST_RANDOM);
+        }
+    }
+
+    #[test]
+    fn openings_of_all_kinds_are_made() {
+        let inputs: Vec<Vec<u8>> = (0..400).map(|seed| input(seed, 1)).collect();
+        let starts_with = |wanted: fn(u8) -> bool| {
+            inputs.iter().filter(|bytes| bytes.first().is_some_and(|&count| wanted(count))).count()
+        };
+        assert!(starts_with(|count| count == 0) > 0);
+        assert!(starts_with(|count| count > 64) > 0);
+        assert!(starts_with(|count| count == 64) > 0);
+        assert!(inputs.iter().any(|bytes| bytes.is_empty()));
+    }
+}

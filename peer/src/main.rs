@@ -1,0 +1,166 @@
+//! The peer: a second desk, written from document 01 alone, and the checks that hold another
+//! program against it.
+
+mod compare;
+mod converse;
+mod cover;
+mod desk;
+mod generator;
+mod program;
+mod progress;
+mod rng;
+mod run;
+mod serial;
+mod slips;
+mod stop;
+mod talk;
+mod wire;
+mod words;
+
+use compare::Inputs;
+use desk::Desk;
+use run::Answer;
+use std::io::{self, Write};
+use std::process::ExitCode;
+use stop::Stop;
+
+/// More requests than any input needs, and few enough to keep in memory.
+const MOST_REQUESTS: u64 = 10_000_000;
+
+const HELP: &str = "\
+The peer: a second desk, written from document 01 alone.
+
+usage: peer COMMAND
+
+  run                            the desk: standard input to standard output
+  gen SEED N                     write the input of a seed: a header and N requests
+  gen --random SEED              write the random byte string of a seed
+  compare PROGRAM SEEDS N [--from S]
+                                 run PROGRAM on that many inputs of gen; its bytes must be
+                                 the peer's
+  compare --random PROGRAM COUNT [--from S]
+                                 the same with random byte strings
+  converse PROGRAM               hold a dialogue with PROGRAM, one request at a time
+  serial SEEDS N                 check demand 3 on random runs of the peer's own desk
+  cover SEEDS N                  count the replies that gen's inputs meet
+  talk [PROGRAM]                 type requests in words, see replies in words
+  talk --day [PROGRAM]           play document 01's day at the desk
+  slip K                         run, with slip K of document 01 (1 to 6) made on purpose,
+                                 to see that the checks can fail
+  help                           this text
+
+PROGRAM is a path, or a path and arguments in one word: 'target/release/peer run'.
+Exit status: 0 all is well, 1 a check found something, 2 wrong usage or a failed start.
+";
+
+fn main() -> ExitCode {
+    let arguments: Vec<String> =
+        std::env::args_os().skip(1).map(|word| word.to_string_lossy().into_owned()).collect();
+    let words: Vec<&str> = arguments.iter().map(String::as_str).collect();
+    let (message, status) = match dispatch(&words) {
+        Ok(()) => return ExitCode::SUCCESS,
+        Err(Stop::Stream(error)) if error.kind() == io::ErrorKind::BrokenPipe => {
+            return ExitCode::SUCCESS;
+        }
+        Err(Stop::Found(what)) => (what, 1),
+        Err(Stop::Cannot(what)) => (what, 2),
+        Err(Stop::Stream(error)) => (error.to_string(), 2),
+    };
+    // Where standard error is closed too, the status has to say it.
+    let _ = writeln!(io::stderr(), "peer: {}", message.trim_end());
+    ExitCode::from(status)
+}
+
+fn dispatch(words: &[&str]) -> Result<(), Stop> {
+    let mut out = io::stdout();
+    if words.iter().any(|word| matches!(*word, "--help" | "-h")) {
+        return Ok(out.write_all(HELP.as_bytes())?);
+    }
+    match *words {
+        ["help"] => Ok(out.write_all(HELP.as_bytes())?),
+        ["run"] => run_here(Desk::answer),
+        ["slip", number] => run_here(slip(number)?),
+        ["gen", "--random", seed] => {
+            Ok(out.write_all(&generator::random_bytes(parse(seed, "SEED")?))?)
+        }
+        ["gen", seed, requests] => {
+            let input = generator::input(parse(seed, "SEED")?, parse_requests(requests)?);
+            Ok(out.write_all(&input)?)
+        }
+        ["compare", ref rest @ ..] => compare_here(rest, &mut out),
+        ["converse", program] => converse::converse(program, &mut out),
+        ["serial", seeds, requests] => {
+            serial::serial(parse_count(seeds, "SEEDS")?, parse_requests(requests)?, &mut out)
+        }
+        ["cover", seeds, requests] => {
+            cover::cover(parse_count(seeds, "SEEDS")?, parse_requests(requests)?, &mut out)
+        }
+        ["talk", "--day"] => talk::day(None, out),
+        ["talk", "--day", program] => talk::day(Some(program), out),
+        ["talk"] => talk::talk_here(None),
+        ["talk", program] => talk::talk_here(Some(program)),
+        _ => Err(usage(words)),
+    }
+}
+
+fn compare_here(words: &[&str], out: &mut impl Write) -> Result<(), Stop> {
+    let (words, from) = match *words {
+        [ref before @ .., "--from", from] => (before, parse(from, "S")?),
+        _ => (words, 0),
+    };
+    match *words {
+        ["--random", program, count] => {
+            compare::compare(program, &Inputs::Random, from, parse_count(count, "COUNT")?, out)
+        }
+        [program, seeds, requests] => {
+            let inputs = Inputs::Generated { requests: parse_requests(requests)? };
+            compare::compare(program, &inputs, from, parse_count(seeds, "SEEDS")?, out)
+        }
+        _ => Err(usage(&["compare"])),
+    }
+}
+
+fn run_here(answer: Answer) -> Result<(), Stop> {
+    Ok(run::serve(io::stdin().lock(), io::stdout().lock(), answer)?)
+}
+
+fn slip(number: &str) -> Result<Answer, Stop> {
+    let index = parse(number, "K")?.checked_sub(1).and_then(|index| usize::try_from(index).ok());
+    let slip = index.and_then(|index| slips::SLIPS.get(index));
+    let (_, answer) = slip.ok_or_else(|| {
+        Stop::Cannot(format!("there is no slip {number}: K is 1 to {}", slips::SLIPS.len()))
+    })?;
+    Ok(*answer)
+}
+
+fn parse(word: &str, name: &str) -> Result<u64, Stop> {
+    word.parse().map_err(|_| Stop::Cannot(format!("{name} has to be a number, not '{word}'")))
+}
+
+/// Zero inputs would pass any check, so a check of none is refused.
+fn parse_count(word: &str, name: &str) -> Result<u64, Stop> {
+    match parse(word, name)? {
+        0 => Err(Stop::Cannot(format!("{name} has to be at least 1"))),
+        count => Ok(count),
+    }
+}
+
+fn parse_requests(word: &str) -> Result<usize, Stop> {
+    let requests = parse(word, "N")?;
+    if requests > MOST_REQUESTS {
+        return Err(Stop::Cannot(format!("N is at most {MOST_REQUESTS}, not {requests}")));
+    }
+    Ok(requests as usize)
+}
+
+/// The lines of the help text that are about the command, or a word about where to find it.
+fn usage(words: &[&str]) -> Stop {
+    let command = words.first().copied().unwrap_or_default();
+    let is_about = |line: &&str| line.split_whitespace().next() == Some(command);
+    let lines: Vec<&str> = HELP.lines().filter(is_about).collect();
+    Stop::Cannot(match (command, lines.is_empty()) {
+        ("", _) => "a command is missing; 'peer help' lists them".to_string(),
+        (_, true) => format!("there is no command '{command}'; 'peer help' lists them"),
+        (_, false) => format!("wrong usage of {command}; it is\n{}", lines.join("\n")),
+    })
+}

@@ -1,0 +1,191 @@
+//! Another program on the far end of two pipes.
+
+use crate::stop::Stop;
+use crate::wire::{hex, Reply, Request, REPLY_BYTES};
+use std::io::{self, Read, Write};
+use std::path::Path;
+use std::process::{Child, ChildStdin, Command, ExitStatus, Stdio};
+use std::sync::mpsc::{sync_channel, Receiver, RecvTimeoutError, SyncSender};
+use std::thread;
+use std::time::{Duration, Instant};
+
+/// How long a reply may take before the program counts as silent.
+pub const PATIENCE: Duration = Duration::from_secs(if cfg!(test) { 1 } else { 10 });
+
+/// What a panic in a Rust program leaves as its exit status.
+const PANIC_STATUS: i32 = 101;
+
+pub struct Program {
+    child: Child,
+    /// None once closed.
+    input: Option<ChildStdin>,
+    output: Receiver<Vec<u8>>,
+    /// Arrived and not yet taken.
+    arrived: Vec<u8>,
+}
+
+impl Program {
+    /// `command` is the path of a program, or a program and its arguments with blanks between.
+    pub fn start(command: &str) -> Result<Program, Stop> {
+        let cannot = |error: io::Error| Stop::Cannot(format!("cannot start '{command}': {error}"));
+        let (path, arguments) = split_command(command);
+        let mut child = Command::new(path)
+            .args(arguments)
+            .stdin(Stdio::piped())
+            .stdout(Stdio::piped())
+            .spawn()
+            .map_err(cannot)?;
+        let (sender, output) = sync_channel(16);
+        if let Some(pipe) = child.stdout.take() {
+            thread::Builder::new().spawn(move || pass_on(pipe, sender)).map_err(cannot)?;
+        }
+        let input = child.stdin.take();
+        Ok(Program { child, input, output, arrived: Vec::new() })
+    }
+
+    pub fn send(&mut self, bytes: &[u8]) -> Result<(), String> {
+        let input = self.input.as_mut().ok_or("its input is closed already")?;
+        let sent = input.write_all(bytes).and_then(|()| input.flush());
+        sent.map_err(|error| format!("the program takes no more input: {error}"))
+    }
+
+    pub fn close_input(&mut self) {
+        self.input = None;
+    }
+
+    /// Sends a whole input from a thread of its own, so that neither side can block the other.
+    /// A program may stop reading early; what it writes is what counts.
+    pub fn send_all_and_close(&mut self, bytes: Vec<u8>) -> Result<(), Stop> {
+        if let Some(mut input) = self.input.take() {
+            thread::Builder::new().spawn(move || input.write_all(&bytes))?;
+        }
+        Ok(())
+    }
+
+    /// Exactly `count` bytes, within `PATIENCE`.
+    pub fn receive(&mut self, count: usize) -> Result<Vec<u8>, String> {
+        let deadline = Instant::now() + PATIENCE;
+        while self.arrived.len() < count {
+            let left = deadline.saturating_duration_since(Instant::now());
+            let so_far = self.arrived.len();
+            match self.output.recv_timeout(left) {
+                Ok(bytes) => self.arrived.extend(bytes),
+                Err(RecvTimeoutError::Timeout) => {
+                    let seconds = PATIENCE.as_secs();
+                    return Err(format!("{so_far} of {count} bytes came within {seconds} s"));
+                }
+                Err(RecvTimeoutError::Disconnected) => {
+                    return Err(format!("its output ended after {so_far} of {count} bytes"));
+                }
+            }
+        }
+        let rest = self.arrived.split_off(count);
+        Ok(std::mem::replace(&mut self.arrived, rest))
+    }
+
+    /// The next 16 bytes as a reply.
+    pub fn receive_reply(&mut self) -> Result<Reply, String> {
+        let mut bytes = [0; REPLY_BYTES];
+        bytes.copy_from_slice(&self.receive(REPLY_BYTES)?);
+        Ok(Reply::from_bytes(&bytes))
+    }
+
+    /// Sends one request and waits for its reply.
+    pub fn ask(&mut self, request: &Request) -> Result<Reply, String> {
+        self.send(&request.to_bytes())?;
+        self.receive_reply()
+    }
+
+    /// Closes the input: nothing more may come, and the program has to end.
+    pub fn finish(&mut self) -> Result<(), String> {
+        self.close_input();
+        self.check_silent_end()
+    }
+
+    /// The program has to end by itself without another byte.
+    pub fn check_silent_end(&mut self) -> Result<(), String> {
+        let spare = self.receive_rest(0, PATIENCE)?;
+        if !spare.is_empty() {
+            return Err(format!("it writes more than its replies: {}", hex(&spare)));
+        }
+        self.check_end()
+    }
+
+    /// What has come without being asked for, after a moment's wait.
+    pub fn unasked(&mut self, moment: Duration) -> &[u8] {
+        thread::sleep(moment);
+        while let Ok(bytes) = self.output.try_recv() {
+            self.arrived.extend(bytes);
+        }
+        &self.arrived
+    }
+
+    /// All output up to its end, or the first bytes past `limit` of a program that will not stop.
+    pub fn receive_rest(&mut self, limit: usize, patience: Duration) -> Result<Vec<u8>, String> {
+        while self.arrived.len() <= limit {
+            match self.output.recv_timeout(patience) {
+                Ok(bytes) => self.arrived.extend(bytes),
+                Err(RecvTimeoutError::Disconnected) => break,
+                Err(RecvTimeoutError::Timeout) => {
+                    let seconds = patience.as_secs();
+                    return Err(format!("its output did not end: nothing for {seconds} s"));
+                }
+            }
+        }
+        Ok(std::mem::take(&mut self.arrived))
+    }
+
+    /// Waits for the end of a program whose output has ended; says so if it crashed.
+    /// The exit status is left open by document 01, so only a crash counts.
+    pub fn check_end(&mut self) -> Result<(), String> {
+        let deadline = Instant::now() + PATIENCE;
+        let mut pause = Duration::from_micros(20);
+        while Instant::now() < deadline {
+            match self.child.try_wait() {
+                Ok(Some(status)) => return check_status(status),
+                Ok(None) => thread::sleep(pause),
+                Err(error) => return Err(format!("cannot wait for it: {error}")),
+            }
+            pause = (pause * 2).min(Duration::from_millis(10));
+        }
+        Err("it ended its output but does not stop".to_string())
+    }
+}
+
+impl Drop for Program {
+    fn drop(&mut self) {
+        // It may have ended by itself, and then there is nothing to do.
+        let _ = self.child.kill();
+        let _ = self.child.wait();
+    }
+}
+
+fn split_command(command: &str) -> (&str, Vec<&str>) {
+    if Path::new(command).exists() {
+        return (command, Vec::new());
+    }
+    let mut words = command.split_whitespace();
+    (words.next().unwrap_or(command), words.collect())
+}
+
+/// Hands output on as it comes. Ends with the output, or when nobody takes it any more.
+fn pass_on(mut pipe: impl Read, sender: SyncSender<Vec<u8>>) {
+    let mut buffer = [0; 1 << 14];
+    loop {
+        match pipe.read(&mut buffer) {
+            Ok(0) => return,
+            Ok(count) if sender.send(buffer[..count].to_vec()).is_err() => return,
+            Ok(_) => {}
+            Err(error) if error.kind() == io::ErrorKind::Interrupted => {}
+            Err(_) => return,
+        }
+    }
+}
+
+fn check_status(status: ExitStatus) -> Result<(), String> {
+    match status.code() {
+        Some(PANIC_STATUS) => Err("it panicked".to_string()),
+        Some(_) => Ok(()),
+        None => Err(format!("it crashed: {status}")),
+    }
+}

@@ -1,0 +1,183 @@
+//! The running desk: bytes in, bytes out, in whatever pieces they arrive.
+
+use crate::desk::{Desk, Refusal, MOST_ITEMS};
+use crate::wire::{Reply, Request, REQUEST_BYTES};
+use std::io::{self, Read, Write};
+
+/// How a desk answers: `Desk::answer`, or one of the deliberate slips.
+pub type Answer = fn(&mut Desk, &Request) -> Reply;
+
+enum State {
+    Opening,
+    Open(Desk),
+    Stopped,
+}
+
+/// One run of the program, fed with input as it comes.
+pub struct Run {
+    answer: Answer,
+    state: State,
+    /// What has arrived and is not yet a whole header or request.
+    waiting: Vec<u8>,
+}
+
+impl Run {
+    pub fn new(answer: Answer) -> Run {
+        Run { answer, state: State::Opening, waiting: Vec::new() }
+    }
+
+    /// The house, while there is one.
+    pub fn desk(&self) -> Option<&Desk> {
+        match &self.state {
+            State::Open(desk) => Some(desk),
+            State::Opening | State::Stopped => None,
+        }
+    }
+
+    pub fn is_stopped(&self) -> bool {
+        matches!(self.state, State::Stopped)
+    }
+
+    /// Takes what has arrived and gives the replies due now.
+    pub fn feed(&mut self, bytes: &[u8]) -> Vec<u8> {
+        self.waiting.extend_from_slice(bytes);
+        if matches!(self.state, State::Opening) {
+            match self.opening() {
+                None => return Vec::new(),
+                Some(Err(refusal)) => return self.stop(refusal),
+                Some(Ok(desk)) => {
+                    self.waiting.drain(..1 + desk.items.len());
+                    self.state = State::Open(desk);
+                }
+            }
+        }
+        self.answer_whole_requests()
+    }
+
+    /// The input has ended. Levels cut short are refused; an unfinished request gets no reply.
+    pub fn end(&mut self) -> Vec<u8> {
+        match self.state {
+            State::Opening => self.stop(Refusal::ItemCount),
+            State::Open(_) | State::Stopped => Vec::new(),
+        }
+    }
+
+    /// None until the whole header is there. A count above 64 is refused without its levels.
+    fn opening(&self) -> Option<Result<Desk, Refusal>> {
+        let (&count, rest) = self.waiting.split_first()?;
+        if usize::from(count) > MOST_ITEMS {
+            return Some(Err(Refusal::ItemCount));
+        }
+        rest.get(..usize::from(count)).map(Desk::open)
+    }
+
+    fn stop(&mut self, refusal: Refusal) -> Vec<u8> {
+        self.state = State::Stopped;
+        Reply { number: refusal.number(), ..Reply::default() }.to_bytes().to_vec()
+    }
+
+    fn answer_whole_requests(&mut self) -> Vec<u8> {
+        let State::Open(desk) = &mut self.state else {
+            return Vec::new();
+        };
+        let mut replies = Vec::new();
+        let mut rest = self.waiting.as_slice();
+        while let Some((bytes, after)) = rest.split_first_chunk::<REQUEST_BYTES>() {
+            let reply = (self.answer)(desk, &Request::from_bytes(bytes));
+            replies.extend_from_slice(&reply.to_bytes());
+            rest = after;
+        }
+        self.waiting = rest.to_vec();
+        replies
+    }
+}
+
+/// All that the program writes for this whole input.
+pub fn output_for(input: &[u8], answer: Answer) -> Vec<u8> {
+    let mut run = Run::new(answer);
+    let mut output = run.feed(input);
+    output.extend(run.end());
+    output
+}
+
+/// Runs until the input ends or the opening is refused. Each reply leaves as soon as it is due.
+pub fn serve(mut input: impl Read, mut output: impl Write, answer: Answer) -> io::Result<()> {
+    let mut run = Run::new(answer);
+    let mut buffer = [0; 1 << 16];
+    while !run.is_stopped() {
+        let replies = match input.read(&mut buffer) {
+            Ok(0) => {
+                output.write_all(&run.end())?;
+                return output.flush();
+            }
+            Ok(count) => run.feed(&buffer[..count]),
+            Err(error) if error.kind() == io::ErrorKind::Interrupted => continue,
+            Err(error) => return Err(error),
+        };
+        output.write_all(&replies)?;
+        output.flush()?;
+    }
+    Ok(())
+}
+
+#[cfg(test)]
+mod tests {
+    use super::*;
+    use crate::generator;
+    use crate::talk::{DAY_INPUT, DAY_OUTPUT};
+
+    fn refused(number: u8) -> Vec<u8> {
+        Reply { number, ..Reply::default() }.to_bytes().to_vec()
+    }
+
+    #[test]
+    fn the_worked_day() {
+        assert_eq!(output_for(&DAY_INPUT, Desk::answer), DAY_OUTPUT);
+    }
+
+    #[test]
+    fn refused_and_cut_openings() {
+        let cases: [(&[u8], u8); 8] = [
+            (&[], 13),
+            (&[0], 13),
+            (&[0, 0, 0, 0], 13),
+            (&[65], 13),
+            (&[2, 0], 13),
+            (&[2, 9], 13),
+            (&[1, 4], 14),
+            (&[2, 0, 255, 0, 0, 0, 0, 0, 0, 0, 0, 0, 0, 0, 0], 14),
+        ];
+        for (input, number) in cases {
+            assert_eq!(output_for(input, Desk::answer), refused(number), "input {input:?}");
+        }
+        assert_eq!(output_for(&[1, 0], Desk::answer), Vec::new());
+        assert_eq!(output_for(&DAY_INPUT[..37], Desk::answer), DAY_OUTPUT[..32]);
+    }
+
+    #[test]
+    fn pieces_do_not_matter() {
+        for seed in 0..60 {
+            let input = generator::input(seed, 20);
+            let whole = output_for(&input, Desk::answer);
+            for size in 1..30 {
+                let mut run = Run::new(Desk::answer);
+                let mut output = Vec::new();
+                for piece in input.chunks(size) {
+                    output.extend(run.feed(piece));
+                }
+                output.extend(run.end());
+                assert_eq!(output, whole, "seed {seed} in pieces of {size}");
+            }
+        }
+    }
+
+    #[test]
+    fn the_streams_carry_the_same_bytes() {
+        for seed in 0..60 {
+            let input = generator::input(seed, 50);
+            let mut output = Vec::new();
+            serve(input.as_slice(), &mut output, Desk::answer).expect("reading from memory");
+            assert_eq!(output, output_for(&input, Desk::answer));
+        }
+    }
+}

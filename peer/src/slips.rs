@@ -1,0 +1,115 @@
+//! The slips the trade has made (document 01), made here on purpose: a desk that behaves but for
+//! one slip. The checks must find each of them, or they are not worth running.
+
+use crate::desk::{Desk, Place, Refusal, Standing};
+use crate::run::Answer;
+use crate::wire::{Operation, Reply, Request};
+
+pub const SLIPS: [(&str, Answer); 6] = [
+    ("tells the certifier how many readers were signalled", tells_count),
+    ("delays a certify for a reader above", delays_for_reader_above),
+    ("counts a transaction's own read lock against its certify", counts_own_read),
+    ("converts the free items of a certify and leaves the rest", converts_free_items),
+    ("gives an ended transaction's ticket again", gives_old_ticket),
+    ("lets a certified transaction commit after it was signalled", commits_when_signalled),
+];
+
+fn is(request: &Request, operation: Operation) -> bool {
+    request.operation == operation.number()
+}
+
+fn delayed(request: &Request) -> Reply {
+    Reply { number: Refusal::Delayed.number(), ..Reply::repeating(request) }
+}
+
+fn signals(desk: &Desk) -> usize {
+    desk.places.iter().map(|place| place.signalled().len()).sum()
+}
+
+/// The items that the requester has written, if it is open.
+fn written(desk: &Desk, request: &Request) -> Vec<usize> {
+    let place = desk.find(request.level, request.ticket);
+    place.map(|place| desk.places[place].written()).unwrap_or_default()
+}
+
+/// Answers as the desk does, but delays a certify when a place in the way reads its items.
+fn delay_certify_if(
+    desk: &mut Desk,
+    request: &Request,
+    is_in_the_way: impl Fn(&Place) -> bool,
+) -> Reply {
+    let before = desk.clone();
+    let written = written(desk, request);
+    let reads_one = |place: &Place| written.iter().any(|&item| place.cell(item).read);
+    let reply = desk.answer(request);
+    if is(request, Operation::Certify)
+        && reply.number == 0
+        && before.places.iter().any(|place| is_in_the_way(place) && reads_one(place))
+    {
+        *desk = before;
+        return delayed(request);
+    }
+    reply
+}
+
+fn tells_count(desk: &mut Desk, request: &Request) -> Reply {
+    let before = signals(desk);
+    let reply = desk.answer(request);
+    if is(request, Operation::Certify) && reply.number == 0 {
+        return Reply { value: (signals(desk) - before) as u32, ..reply };
+    }
+    reply
+}
+
+fn delays_for_reader_above(desk: &mut Desk, request: &Request) -> Reply {
+    delay_certify_if(desk, request, |place| place.level > request.level)
+}
+
+fn counts_own_read(desk: &mut Desk, request: &Request) -> Reply {
+    let own = (request.level, request.ticket);
+    delay_certify_if(desk, request, |place| (place.level, place.ticket) == own)
+}
+
+fn converts_free_items(desk: &mut Desk, request: &Request) -> Reply {
+    let reply = desk.answer(request);
+    if !is(request, Operation::Certify) || reply.number != Refusal::Delayed.number() {
+        return reply;
+    }
+    let Ok(me) = desk.find(request.level, request.ticket) else {
+        return reply;
+    };
+    for item in written(desk, request) {
+        let is_beside = |(place, other): (usize, &Place)| {
+            place != me && other.level == request.level && other.cell(item).read
+        };
+        if !desk.places.iter().enumerate().any(is_beside) {
+            let cell = desk.places[me].cell_mut(item);
+            cell.write = false;
+            cell.certify = true;
+        }
+    }
+    reply
+}
+
+fn gives_old_ticket(desk: &mut Desk, request: &Request) -> Reply {
+    let reply = desk.answer(request);
+    let ends = is(request, Operation::Commit) || is(request, Operation::Abort);
+    if ends && reply.number == 0 {
+        desk.next_ticket[usize::from(request.level)] = Some(request.ticket);
+    }
+    reply
+}
+
+fn commits_when_signalled(desk: &mut Desk, request: &Request) -> Reply {
+    let reply = desk.answer(request);
+    if !is(request, Operation::Commit) || reply.number != Refusal::Signalled.number() {
+        return reply;
+    }
+    match desk.find(request.level, request.ticket) {
+        Ok(me) if desk.places[me].standing == Standing::Certified => {
+            desk.places[me].cells.values_mut().for_each(|cell| cell.signalled = false);
+            desk.answer(request)
+        }
+        _ => reply,
+    }
+}

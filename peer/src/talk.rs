@@ -1,0 +1,337 @@
+//! Words to wire and back: a person types requests in words and sees the replies in words, with
+//! the bytes of both beside them.
+
+use crate::desk::Desk;
+use crate::program::Program;
+use crate::stop::Stop;
+use crate::wire::{hex, Reply, Request, REPLY_BYTES, REQUEST_BYTES};
+use crate::words;
+use std::io::{self, BufRead, Write};
+
+#[rustfmt::skip]
+pub const DAY_INPUT: [u8; 2 + 3 * REQUEST_BYTES] = [
+    1, 0,
+    0, 0, 0, 0, 0, 0, 0, 0, 0, 0, 0, 0,
+    2, 0, 0, 0, 1, 0, 0, 0, 7, 0, 0, 0,
+    1, 0, 0, 0, 1, 0, 0, 0, 0, 0, 0, 0,
+];
+#[rustfmt::skip]
+pub const DAY_OUTPUT: [u8; 3 * REPLY_BYTES] = [
+    0, 0, 0, 0, 1, 0, 0, 0, 0, 0, 0, 0, 0, 0, 0, 0,
+    0, 2, 0, 0, 1, 0, 0, 0, 0, 0, 0, 0, 0, 0, 0, 0,
+    0, 1, 0, 0, 1, 0, 0, 0, 7, 0, 0, 0, 1, 0, 0, 0,
+];
+const DAY_WORDS: &str = "open 0\nbegin 0\nwrite 0 #1 item 0 = 7\nread 0 #1 item 0\n";
+
+const HELP: &str = "\
+one line each:
+  open 0 0 2               opens a fresh house: the level of each item, 0 to 3
+  begin 0                  a new transaction at level 0; its ticket comes back
+  read 0 #1 item 0         level 0, ticket 1
+  write 0 #1 item 0 = 7
+  certify 0 #1             then  commit 0 #1
+  abort 0 #1
+  ask 2 #1                 which items are signalled
+  raw 07 00 00 00 01 00 00 00 00 00 00 00     any 12 bytes, in hex
+  show                     the lock table
+  help, quit
+";
+
+/// A prompt for a person, or the line itself for a transcript of a pipe.
+#[derive(Clone, Copy, PartialEq, Eq)]
+pub enum Manner {
+    Prompt,
+    Echo,
+}
+
+struct Talk<'a, W> {
+    /// The program to talk to, or None to use the peer's own desk.
+    command: Option<&'a str>,
+    house: Option<House>,
+    out: W,
+    /// All bytes sent and received.
+    sent: Vec<u8>,
+    received: Vec<u8>,
+    requests: u64,
+    /// How often the program did not do what the peer's desk does.
+    differences: u64,
+}
+
+/// The house as the peer sees it, and the program that keeps its own.
+struct House {
+    desk: Desk,
+    program: Option<Program>,
+}
+
+pub fn talk(
+    command: Option<&str>,
+    lines: impl BufRead,
+    out: impl Write,
+    manner: Manner,
+) -> Result<(), Stop> {
+    let mut talk = Talk::new(command, out);
+    talk.converse(lines, manner)?;
+    talk.sum_up()
+}
+
+/// Plays document 01's day and checks that its bytes are those of the document.
+pub fn day(command: Option<&str>, out: impl Write) -> Result<(), Stop> {
+    let mut talk = Talk::new(command, out);
+    talk.converse(DAY_WORDS.as_bytes(), Manner::Echo)?;
+    if talk.sent != DAY_INPUT || talk.received != DAY_OUTPUT {
+        return Err(Stop::Found("these are not the bytes of document 01's day".to_string()));
+    }
+    writeln!(talk.out, "these are the bytes of document 01, \"One day at the desk, whole\"")?;
+    talk.sum_up()
+}
+
+impl<'a, W: Write> Talk<'a, W> {
+    fn new(command: Option<&'a str>, out: W) -> Talk<'a, W> {
+        let (sent, received) = (Vec::new(), Vec::new());
+        Talk { command, house: None, out, sent, received, requests: 0, differences: 0 }
+    }
+
+    fn converse(&mut self, mut lines: impl BufRead, manner: Manner) -> Result<(), Stop> {
+        if manner == Manner::Prompt {
+            writeln!(self.out, "Start with the levels of the items: open 0 0 2 (or help)")?;
+        }
+        loop {
+            if manner == Manner::Prompt {
+                write!(self.out, "> ")?;
+                self.out.flush()?;
+            }
+            let mut bytes = Vec::new();
+            if lines.read_until(b'\n', &mut bytes)? == 0 {
+                if manner == Manner::Prompt {
+                    writeln!(self.out)?;
+                }
+                return self.close_house();
+            }
+            let text = String::from_utf8_lossy(&bytes);
+            let line = text.trim();
+            if manner == Manner::Echo && !line.is_empty() {
+                writeln!(self.out, "> {line}")?;
+            }
+            if line == "quit" {
+                return self.close_house();
+            }
+            self.take_line(line)?;
+            self.out.flush()?;
+        }
+    }
+
+    fn take_line(&mut self, line: &str) -> Result<(), Stop> {
+        let (verb, rest) = line.split_once(char::is_whitespace).unwrap_or((line, ""));
+        let request = match verb {
+            "" => return Ok(()),
+            "help" => return Ok(write!(self.out, "{HELP}")?),
+            "show" => return self.show(),
+            "open" => {
+                return match parse_levels(rest) {
+                    Ok(levels) => self.open(&levels),
+                    Err(message) => self.say(&message),
+                }
+            }
+            "raw" => parse_raw(rest),
+            _ => words::parse_request(line),
+        };
+        match request {
+            Ok(request) => self.ask(&request),
+            Err(message) => self.say(&message),
+        }
+    }
+
+    fn say(&mut self, message: &str) -> Result<(), Stop> {
+        Ok(writeln!(self.out, "  {message}")?)
+    }
+
+    fn show(&mut self) -> Result<(), Stop> {
+        match &self.house {
+            Some(house) => Ok(write!(self.out, "{}", words::lock_table(&house.desk))?),
+            None => self.say("no house is open; say 'open 0 0 2'"),
+        }
+    }
+
+    /// Each opening starts a desk anew, and the program with it.
+    fn open(&mut self, levels: &[u8]) -> Result<(), Stop> {
+        self.close_house()?;
+        let mut program = self.command.map(Program::start).transpose()?;
+        let header = [&[levels.len() as u8], levels].concat();
+        if let Some(Err(message)) = program.as_mut().map(|program| program.send(&header)) {
+            return self.lose_program(&message);
+        }
+        self.sent.extend_from_slice(&header);
+        match Desk::open(levels) {
+            Ok(desk) => {
+                self.line("opening", &header, &format!("a house with {}", list(levels)))?;
+                self.house = Some(House { desk, program });
+                Ok(())
+            }
+            Err(refusal) => {
+                self.line("opening", &header, &list(levels))?;
+                let ours = Reply { number: refusal.number(), ..Reply::default() };
+                let theirs = program.as_mut().map(|program| {
+                    let reply = program.receive_reply()?;
+                    program.check_silent_end().map(|()| reply)
+                });
+                self.take_reply(ours, theirs)?;
+                self.say("the desk has stopped; open again to go on")
+            }
+        }
+    }
+
+    fn ask(&mut self, request: &Request) -> Result<(), Stop> {
+        let Some(house) = &mut self.house else {
+            return self.say("open a house first; say 'open 0 0 2'");
+        };
+        let theirs = house.program.as_mut().map(|program| program.ask(request));
+        let ours = house.desk.answer(request);
+        self.requests += 1;
+        self.sent.extend_from_slice(&request.to_bytes());
+        self.line("request", &request.to_bytes(), &words::request(request))?;
+        self.take_reply(ours, theirs)
+    }
+
+    /// Shows the program's reply, or the peer's own where there is no program.
+    fn take_reply(
+        &mut self,
+        ours: Reply,
+        theirs: Option<Result<Reply, String>>,
+    ) -> Result<(), Stop> {
+        let reply = match theirs {
+            Some(Err(message)) => return self.lose_program(&message),
+            Some(Ok(theirs)) => theirs,
+            None => ours,
+        };
+        self.received.extend_from_slice(&reply.to_bytes());
+        self.line("reply", &reply.to_bytes(), &words::reply(&reply))?;
+        if reply != ours {
+            self.differences += 1;
+            self.line(
+                "DIFFERS",
+                &ours.to_bytes(),
+                &format!("by the peer: {}", words::reply(&ours)),
+            )?;
+            let fields = words::differing_fields(("peer", &ours), ("program", &reply));
+            self.say(&format!("they differ in {fields}"))?;
+        }
+        Ok(())
+    }
+
+    fn lose_program(&mut self, message: &str) -> Result<(), Stop> {
+        self.differences += 1;
+        self.house = None;
+        self.say(&format!("THE PROGRAM FAILED: {message}; open again to go on"))
+    }
+
+    fn close_house(&mut self) -> Result<(), Stop> {
+        let program = self.house.take().and_then(|house| house.program);
+        if let Some(Err(message)) = program.map(|mut program| program.finish()) {
+            return self.lose_program(&message);
+        }
+        Ok(())
+    }
+
+    fn line(&mut self, kind: &str, bytes: &[u8], words: &str) -> Result<(), Stop> {
+        Ok(writeln!(self.out, "  {kind:<8} {:<47}  {words}", hex(bytes))?)
+    }
+
+    fn sum_up(&mut self) -> Result<(), Stop> {
+        if self.differences > 0 {
+            let count = self.differences;
+            let message = format!("differences between the program and the peer's desk: {count}");
+            return Err(Stop::Found(message));
+        }
+        if self.command.is_some() {
+            let requests = self.requests;
+            writeln!(self.out, "{requests} requests answered; the peer's desk agrees with each")?;
+        }
+        Ok(())
+    }
+}
+
+fn list(levels: &[u8]) -> String {
+    match levels {
+        [] => "no items".to_string(),
+        [level] => format!("1 item, at level {level}"),
+        _ => {
+            let words: Vec<String> = levels.iter().map(u8::to_string).collect();
+            format!("{} items, at levels {}", levels.len(), words.join(" "))
+        }
+    }
+}
+
+/// The wire has one byte for the count and one for each level; the desk judges the rest.
+fn parse_levels(words: &str) -> Result<Vec<u8>, String> {
+    let level = |word| words::number(Some(word), "a level", u8::MAX.into());
+    let levels: Vec<u8> = words
+        .split_whitespace()
+        .map(|word| level(word).map(|number| number as u8))
+        .collect::<Result<_, _>>()?;
+    if levels.len() > usize::from(u8::MAX) {
+        return Err("the count of items is one byte: at most 255 levels".to_string());
+    }
+    Ok(levels)
+}
+
+fn parse_raw(words: &str) -> Result<Request, String> {
+    let byte = |word: &str| {
+        let digits = word.chars().all(|digit| digit.is_ascii_hexdigit());
+        u8::from_str_radix(word, 16).ok().filter(|_| digits && word.len() <= 2)
+    };
+    let bytes: Option<Vec<u8>> = words.split_whitespace().map(byte).collect();
+    let request = bytes.and_then(|bytes| <[u8; REQUEST_BYTES]>::try_from(bytes).ok());
+    let wanted = "raw needs 12 bytes in hex, such as 07 00 00 00 01 00 00 00 00 00 00 00";
+    request.map(|bytes| Request::from_bytes(&bytes)).ok_or_else(|| wanted.to_string())
+}
+
+/// Talks with the person or pipe at standard input.
+pub fn talk_here(command: Option<&str>) -> Result<(), Stop> {
+    let stdin = io::stdin();
+    let is_person = io::IsTerminal::is_terminal(&stdin);
+    let manner = if is_person { Manner::Prompt } else { Manner::Echo };
+    talk(command, stdin.lock(), io::stdout().lock(), manner)
+}
+
+#[cfg(test)]
+mod tests {
+    use super::*;
+
+    fn transcript(lines: &str) -> String {
+        let mut out = Vec::new();
+        talk(None, lines.as_bytes(), &mut out, Manner::Echo).expect("a talk in memory");
+        String::from_utf8(out).expect("words")
+    }
+
+    #[test]
+    fn the_day_has_the_bytes_of_the_document() {
+        let mut out = Vec::new();
+        day(None, &mut out).expect("the day");
+        let text = String::from_utf8(out).expect("words");
+        assert!(text.contains("02 00 00 00 01 00 00 00 07 00 00 00"), "{text}");
+        assert!(text.contains("done: value 7, version 1"), "{text}");
+    }
+
+    #[test]
+    fn bad_lines_do_not_end_the_talk() {
+        let text = transcript(
+            "begin 0\nopen x\nopen 0 0 2\ndance\nraw 01\nraw +1 0 0 0 0 0 0 0 0 0 0 0\n\u{fffd}\n\
+             begin 2\nread 2 #1 item 9\nshow\nquit\nbegin 0\n",
+        );
+        assert!(text.contains("open a house first"), "{text}");
+        assert!(text.contains("'x' is not a level"), "{text}");
+        assert!(text.contains("'dance' is not known"), "{text}");
+        assert_eq!(text.matches("raw needs 12 bytes").count(), 2, "{text}");
+        assert!(text.contains("7, refused: no such item"), "{text}");
+        assert!(text.contains("2#1"), "{text}");
+        assert!(text.trim_end().ends_with("> quit"), "{text}");
+    }
+
+    #[test]
+    fn refused_openings_are_told() {
+        let text = transcript("open\nopen 0 4\nbegin 0\n");
+        assert!(text.contains("13, refused"), "{text}");
+        assert!(text.contains("14, refused"), "{text}");
+        assert!(text.contains("open a house first"), "{text}");
+    }
+}

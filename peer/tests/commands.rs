@@ -1,0 +1,92 @@
+//! The commands as a person or a build calls them, and that the checks are able to fail.
+
+use std::io::Write;
+use std::process::{Command, Output, Stdio};
+
+const PEER: &str = env!("CARGO_BIN_EXE_peer");
+
+fn peer(arguments: &[&str]) -> Output {
+    Command::new(PEER).args(arguments).stdin(Stdio::null()).output().expect("the peer starts")
+}
+
+fn peer_with_input(arguments: &[&str], input: &[u8]) -> Output {
+    let mut child = Command::new(PEER)
+        .args(arguments)
+        .stdin(Stdio::piped())
+        .stdout(Stdio::piped())
+        .stderr(Stdio::null())
+        .spawn()
+        .expect("the peer starts");
+    child.stdin.take().expect("a pipe").write_all(input).expect("it reads");
+    child.wait_with_output().expect("it ends")
+}
+
+/// Checks the exit status and that all of `wanted` is said on either stream.
+fn assert_says(arguments: &[&str], status: i32, wanted: &[&str]) {
+    let output = peer(arguments);
+    let text = String::from_utf8_lossy(&[output.stdout, output.stderr].concat()).into_owned();
+    assert_eq!(output.status.code(), Some(status), "{arguments:?}: {text}");
+    for words in wanted {
+        assert!(text.contains(words), "{arguments:?} does not say '{words}':\n{text}");
+    }
+}
+
+#[test]
+fn the_peer_agrees_with_itself() {
+    let own = format!("{PEER} run");
+    assert_says(&["compare", &own, "30", "200"], 0, &["compared 30 inputs", ": no difference"]);
+    assert_says(&["compare", "--random", &own, "30", "--from", "900"], 0, &["compared 30 inputs"]);
+    // More than the pipes hold, both ways.
+    assert_says(&["compare", &own, "2", "50000"], 0, &[": no difference"]);
+    assert_says(&["converse", &own], 0, &["conversed in 7 scenes"]);
+    assert_says(&["talk", "--day", &own], 0, &["the peer's desk agrees with each"]);
+}
+
+#[test]
+fn compare_finds_every_slip() {
+    for slip in 1..=6 {
+        let program = format!("{PEER} slip {slip}");
+        let wanted = ["the outputs differ", "they differ in", "the house before it"];
+        assert_says(&["compare", &program, "100", "400"], 1, &wanted);
+    }
+}
+
+#[test]
+fn compare_finds_programs_that_are_no_desk() {
+    assert_says(&["compare", "true", "3", "10"], 1, &["the program: nothing"]);
+    assert_says(&["compare", "cat", "3", "10"], 1, &["they differ in"]);
+    assert_says(&["compare", "yes", "3", "10"], 1, &["the outputs differ at byte 0"]);
+    assert_says(&["compare", "no-such-program", "3", "10"], 2, &["cannot start"]);
+}
+
+#[test]
+fn converse_and_talk_find_a_slip() {
+    let program = format!("{PEER} slip 1");
+    assert_says(&["converse", &program], 1, &["value (peer: 0, program: 1)"]);
+    let lines =
+        b"open 0 1\nbegin 0\nbegin 1\nread 1 #1 item 0\nwrite 0 #1 item 0 = 7\ncertify 0 #1\n";
+    let output = peer_with_input(&["talk", &program], lines);
+    assert_eq!(output.status.code(), Some(1));
+    assert!(String::from_utf8_lossy(&output.stdout).contains("DIFFERS"));
+}
+
+#[test]
+fn wrong_usage_is_told() {
+    assert_says(&[], 2, &["a command is missing"]);
+    assert_says(&["dance"], 2, &["no command 'dance'"]);
+    assert_says(&["compare", "x"], 2, &["wrong usage of compare", "compare PROGRAM SEEDS N"]);
+    assert_says(&["gen", "x", "1"], 2, &["SEED has to be a number"]);
+    assert_says(&["gen", "1", "99999999999"], 2, &["N is at most"]);
+    assert_says(&["cover", "0", "400"], 2, &["SEEDS has to be at least 1"]);
+    assert_says(&["slip", "0"], 2, &["there is no slip 0"]);
+    assert_says(&["--help"], 0, &["usage: peer COMMAND"]);
+}
+
+#[test]
+fn gen_goes_into_run() {
+    let input = peer(&["gen", "2", "100"]).stdout;
+    assert_eq!(input, peer(&["gen", "2", "100"]).stdout);
+    let output = peer_with_input(&["run"], &input);
+    assert_eq!(output.status.code(), Some(0));
+    assert_eq!(output.stdout.len() % 16, 0);
+}
