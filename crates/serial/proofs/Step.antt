@@ -189,7 +189,7 @@ module _ {t : Table} {h : House} {past : Past} (I : Known t h past) (q : Request
       unfolding readBy
       read-known o K =
           worked I (read-frame (I .law) K) (read-own (I .law) K) (K .place) _ (S .taken) (sym (S .within .level)) (sym (S .ticket))
-          (rw (read-number h q me (q .item)) (rw o)) (rw (read-number h q me (q .item)) (rw o)) refl (λ l. refl)
+          (rw (read-number q (h .cells) (itemAt (h .items) (q .item)) me (q .item)) (rw o)) (rw (read-number q (h .cells) (itemAt (h .items) (q .item)) me (q .item)) (rw o)) refl (λ l. refl)
           (read-told (I .law) q o K _ (I .told _ (K .place) (S .taken))) (read-table h me (q .item))
 
       write-known : q .operation ≡ 2 → MayWrite h me (q .item) → Known t (writtenBy h me (q .item) (q .value)) ((q, replied q Done) ∷ past)
