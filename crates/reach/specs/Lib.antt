@@ -3,3 +3,4 @@ pub mod Kept
 pub mod Guards
 pub mod Delay
 pub mod Decides
+pub mod Answers
