@@ -11,7 +11,7 @@ ghost use lib.Dec.{leb};
 ghost use Rattle.house.specs.Search.{find};
 ghost use Rattle.house.specs.House.{dominates, freeAt};
 ghost use Rattle.house.specs.Rules.{noOperation, noLevel, unusedSet, readAnswer, askAnswer};
-ghost use Rattle.ruling.specs.Ruling.{refusal};
+ghost use Rattle.ruling.specs.Ruling.{refusal, grant};
 ghost use Rattle.ruling.specs.Judged.{Judged, moved, beginRuled, readRuled, writeRuled, certifyRuled, commitRuled, knownRuled};
 use house::Answer;
 use house::Found;
@@ -64,6 +64,12 @@ fn refuse(number: u8) -> Ruling
     }
 }
 
+fn allow(answer: Answer, change: Change) -> Ruling
+    ensures { λ r. ⌜ r ≡ grant answer change ⌝ }
+{
+    Ruling { answer, change }
+}
+
 // The house has 64 rows, whatever its count says.
 fn lacks_item(count: usize, i: usize) -> bool
     ensures { λ r. ⌜ r ≡ (leb count i || leb 64 i) ⌝ }
@@ -108,10 +114,7 @@ fn judge_begin(eight: [Place; 8], ticket: u32, level: usize) -> Ruling
     if ticket == 0 {
         return refuse(12);
     }
-    Ruling {
-        answer: Answer::Ticket(ticket),
-        change: Change::Begin(level, level * 8 + k),
-    }
+    allow(Answer::Ticket(ticket), Change::Begin(level, level * 8 + k))
 }
 
 fn judge_read(
@@ -119,11 +122,11 @@ fn judge_read(
     x: Item,
     cells: &[u8; 2048],
     q: Request,
-    me: usize,
+    reader: usize,
     s: Standing,
 ) -> Ruling
-    requires { ⌜ me < 32 ⌝ }
-    ensures { λ r. ⌜ r ≡ readRuled count x (now (cells .entry)) q me s ⌝ }
+    requires { ⌜ reader < 32 ⌝ }
+    ensures { λ r. ⌜ r ≡ readRuled count x (now (cells .entry)) q reader s ⌝ }
 {
     let i = q.item as usize;
     if lacks_item(count, i) {
@@ -132,19 +135,16 @@ fn judge_read(
     if does_not_dominate(q.level, x.level) {
         return refuse(8);
     }
-    if is_signalled(cells, me) {
+    if is_signalled(cells, reader) {
         return refuse(2);
     }
     if is_certified(s) {
         return refuse(9);
     }
-    if other_holds(cells, Mark::Certify, me, i) {
+    if other_holds(cells, Mark::Certify, reader, i) {
         return refuse(1);
     }
-    Ruling {
-        answer: answer_read(cells, x, me, i),
-        change: Change::Read(me, i),
-    }
+    allow(answer_read(cells, x, reader, i), Change::Read(reader, i))
 }
 
 fn judge_write(
@@ -152,11 +152,11 @@ fn judge_write(
     x: Item,
     cells: &[u8; 2048],
     q: Request,
-    me: usize,
+    writer: usize,
     s: Standing,
 ) -> Ruling
-    requires { ⌜ me < 32 ⌝ }
-    ensures { λ r. ⌜ r ≡ writeRuled count x (now (cells .entry)) q me s ⌝ }
+    requires { ⌜ writer < 32 ⌝ }
+    ensures { λ r. ⌜ r ≡ writeRuled count x (now (cells .entry)) q writer s ⌝ }
 {
     let i = q.item as usize;
     if lacks_item(count, i) {
@@ -165,7 +165,7 @@ fn judge_write(
     if x.level != q.level {
         return refuse(8);
     }
-    if is_signalled(cells, me) {
+    if is_signalled(cells, writer) {
         return refuse(2);
     }
     if is_certified(s) {
@@ -174,48 +174,39 @@ fn judge_write(
     if 4294967295 <= x.version {
         return refuse(10);
     }
-    if other_claims(cells, me, i) {
+    if other_claims(cells, writer, i) {
         return refuse(1);
     }
-    Ruling {
-        answer: Answer::Done,
-        change: Change::Write(me, i, q.value),
-    }
+    allow(Answer::Done, Change::Write(writer, i, q.value))
 }
 
-fn judge_certify(cells: &[u8; 2048], me: usize, s: Standing) -> Ruling
-    requires { ⌜ me < 32 ⌝ }
-    ensures { λ r. ⌜ r ≡ certifyRuled (now (cells .entry)) me s ⌝ }
+fn judge_certify(cells: &[u8; 2048], certifier: usize, s: Standing) -> Ruling
+    requires { ⌜ certifier < 32 ⌝ }
+    ensures { λ r. ⌜ r ≡ certifyRuled (now (cells .entry)) certifier s ⌝ }
 {
-    if is_signalled(cells, me) {
+    if is_signalled(cells, certifier) {
         return refuse(2);
     }
     if is_certified(s) {
         return refuse(9);
     }
-    if must_wait(cells, me) {
+    if must_wait(cells, certifier) {
         return refuse(1);
     }
-    Ruling {
-        answer: Answer::Done,
-        change: Change::Certify(me),
-    }
+    allow(Answer::Done, Change::Certify(certifier))
 }
 
-fn judge_commit(cells: &[u8; 2048], me: usize, s: Standing) -> Ruling
-    requires { ⌜ me < 32 ⌝ }
-    ensures { λ r. ⌜ r ≡ commitRuled (now (cells .entry)) me s ⌝ }
+fn judge_commit(cells: &[u8; 2048], committer: usize, s: Standing) -> Ruling
+    requires { ⌜ committer < 32 ⌝ }
+    ensures { λ r. ⌜ r ≡ commitRuled (now (cells .entry)) committer s ⌝ }
 {
-    if is_signalled(cells, me) {
+    if is_signalled(cells, committer) {
         return refuse(2);
     }
     if is_active(s) {
         return refuse(9);
     }
-    Ruling {
-        answer: Answer::Done,
-        change: Change::Commit(me),
-    }
+    allow(Answer::Done, Change::Commit(committer))
 }
 
 // Past the checks 3, 4, 5 and 6: the request of the transaction at place me, whose standing is s.
@@ -236,14 +227,8 @@ fn judge_known(
         2 => judge_write(count, x, cells, q, me, s),
         3 => judge_certify(cells, me, s),
         4 => judge_commit(cells, me, s),
-        5 => Ruling {
-            answer: Answer::Done,
-            change: Change::Abort(me),
-        },
-        _ => Ruling {
-            answer: answer_ask(cells, me),
-            change: Change::Nothing,
-        },
+        5 => allow(Answer::Done, Change::Abort(me)),
+        _ => allow(answer_ask(cells, me), Change::Nothing),
     }
 }
 

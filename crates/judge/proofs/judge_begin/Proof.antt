@@ -36,9 +36,12 @@ mul-t8 c = search needs
 add-t9 : tie.Need-add-t9
 add-t9 c = omega (arith, find-below _ 0 8 _ (sym (c .before .before .before .before .lowest-free .ensures) ∙ c .before .before .k .given .1))
 
+allow-requires : tie.Need-allow-requires
+allow-requires c κs = search needs
+
 returns-3 : tie.Need-returns-3
 unfolding beginRuled
-returns-3 c = simp (beginRuled, sym (c .before .before .before .before .lowest-free .ensures) ∙ c .before .before .k .given .1, ne-eqb _ _ (c .if1 .left))
+returns-3 c = simp (beginRuled, sym (c .before .before .before .before .before .lowest-free .ensures) ∙ c .before .before .before .k .given .1, ne-eqb _ _ (c .before .if1 .left), c .allow .ensures)
 
 pub judge-begin-spec : {M : Type 1} → statement M
 judge-begin-spec =
@@ -53,4 +56,5 @@ judge-begin-spec =
     returns-2
     mul-t8
     add-t9
+    allow-requires
     returns-3)

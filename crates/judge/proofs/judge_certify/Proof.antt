@@ -34,9 +34,12 @@ returns-3 : tie.Need-returns-3
 unfolding certifyRuled
 returns-3 c = simp (certifyRuled, sym (c .before .before .before .before .before .before .is-signalled .ensures) ∙ c .before .before .before .before .before .if1 .left, sym (c .before .before .before .before .is-certified .ensures) ∙ c .before .before .before .if2 .left, sym (c .before .before .must-wait .ensures) ∙ c .before .if3 .taken, c .refuse3 .ensures)
 
+allow-requires : tie.Need-allow-requires
+allow-requires c κs = search needs
+
 returns-4 : tie.Need-returns-4
 unfolding certifyRuled
-returns-4 c = simp (certifyRuled, sym (c .before .before .before .before .before .is-signalled .ensures) ∙ c .before .before .before .before .if1 .left, sym (c .before .before .before .is-certified .ensures) ∙ c .before .before .if2 .left, sym (c .before .must-wait .ensures) ∙ c .if3 .left)
+returns-4 c = simp (certifyRuled, sym (c .before .before .before .before .before .before .is-signalled .ensures) ∙ c .before .before .before .before .before .if1 .left, sym (c .before .before .before .before .is-certified .ensures) ∙ c .before .before .before .if2 .left, sym (c .before .before .must-wait .ensures) ∙ c .before .if3 .left, c .allow .ensures)
 
 pub judge-certify-spec : {M : Type 1} → statement M
 judge-certify-spec =
@@ -51,4 +54,5 @@ judge-certify-spec =
     must-wait-requires
     refuse-requires-3
     returns-3
+    allow-requires
     returns-4)

@@ -24,9 +24,12 @@ returns-2 : tie.Need-returns-2
 unfolding commitRuled
 returns-2 c = simp (commitRuled, sym (c .before .before .before .before .is-signalled .ensures) ∙ c .before .before .before .if1 .left, sym (c .before .before .is-active .ensures) ∙ c .before .if2 .taken, c .refuse2 .ensures)
 
+allow-requires : tie.Need-allow-requires
+allow-requires c κs = search needs
+
 returns-3 : tie.Need-returns-3
 unfolding commitRuled
-returns-3 c = simp (commitRuled, sym (c .before .before .before .is-signalled .ensures) ∙ c .before .before .if1 .left, sym (c .before .is-active .ensures) ∙ c .if2 .left)
+returns-3 c = simp (commitRuled, sym (c .before .before .before .before .is-signalled .ensures) ∙ c .before .before .before .if1 .left, sym (c .before .before .is-active .ensures) ∙ c .before .if2 .left, c .allow .ensures)
 
 pub judge-commit-spec : {M : Type 1} → statement M
 judge-commit-spec =
@@ -38,4 +41,5 @@ judge-commit-spec =
     is-active-requires
     refuse-requires-2
     returns-2
+    allow-requires
     returns-3)

@@ -16,8 +16,14 @@ judge-certify-requires c κs = search needs
 judge-commit-requires : tie.Need-judge-commit-requires
 judge-commit-requires c κs = search needs
 
+allow-requires : tie.Need-allow-requires
+allow-requires c κs = search needs
+
 answer-ask-requires : tie.Need-answer-ask-requires
 answer-ask-requires c κs = search needs
+
+allow-requires-2 : tie.Need-allow-requires-2
+allow-requires-2 c κs = search needs
 
 returns : tie.Need-returns
 unfolding knownRuled
@@ -37,11 +43,11 @@ returns-4 c = simp (knownRuled, c .before .match .keys4, c .judge-commit .ensure
 
 returns-5 : tie.Need-returns-5
 unfolding knownRuled
-returns-5 c = simp (knownRuled, c .match .keys5)
+returns-5 c = simp (knownRuled, c .before .match .keys5, c .allow .ensures)
 
 returns-6 : tie.Need-returns-6
 unfolding knownRuled
-returns-6 c = simp (knownRuled, ne-eqb _ _ (c .before .match .rest .1), ne-eqb _ _ (c .before .match .rest .0 .1), ne-eqb _ _ (c .before .match .rest .0 .0 .1), ne-eqb _ _ (c .before .match .rest .0 .0 .0 .1), ne-eqb _ _ (c .before .match .rest .0 .0 .0 .0 .1), c .answer-ask .ensures)
+returns-6 c = simp (knownRuled, ne-eqb _ _ (c .before .before .match .rest .1), ne-eqb _ _ (c .before .before .match .rest .0 .1), ne-eqb _ _ (c .before .before .match .rest .0 .0 .1), ne-eqb _ _ (c .before .before .match .rest .0 .0 .0 .1), ne-eqb _ _ (c .before .before .match .rest .0 .0 .0 .0 .1), c .before .answer-ask .ensures, c .allow2 .ensures)
 
 pub judge-known-spec : {M : Type 1} → statement M
 judge-known-spec =
@@ -51,7 +57,9 @@ judge-known-spec =
     judge-write-requires
     judge-certify-requires
     judge-commit-requires
+    allow-requires
     answer-ask-requires
+    allow-requires-2
     returns
     returns-2
     returns-3

@@ -61,9 +61,12 @@ returns-5 c = simp (readRuled, sym (c .before .before .before .before .before .b
 answer-read-requires : tie.Need-answer-read-requires
 answer-read-requires c κs = (search needs, row-there _ _ (sym (c .before .before .before .before .before .before .before .before .before .lacks-item .ensures) ∙ c .before .before .before .before .before .before .before .before .if1 .left))
 
+allow-requires : tie.Need-allow-requires
+allow-requires c κs = search needs
+
 returns-6 : tie.Need-returns-6
 unfolding readRuled
-returns-6 c = simp (readRuled, sym (c .before .before .before .before .before .before .before .before .before .before .lacks-item .ensures) ∙ c .before .before .before .before .before .before .before .before .before .if1 .left, sym (c .before .before .before .before .before .before .before .before .does-not-dominate .ensures) ∙ c .before .before .before .before .before .before .before .if2 .left, sym (c .before .before .before .before .before .before .is-signalled .ensures) ∙ c .before .before .before .before .before .if3 .left, sym (c .before .before .before .before .is-certified .ensures) ∙ c .before .before .before .if4 .left, sym (c .before .before .other-holds .ensures) ∙ c .before .if5 .left, c .answer-read .ensures)
+returns-6 c = simp (readRuled, sym (c .before .before .before .before .before .before .before .before .before .before .before .lacks-item .ensures) ∙ c .before .before .before .before .before .before .before .before .before .before .if1 .left, sym (c .before .before .before .before .before .before .before .before .before .does-not-dominate .ensures) ∙ c .before .before .before .before .before .before .before .before .if2 .left, sym (c .before .before .before .before .before .before .before .is-signalled .ensures) ∙ c .before .before .before .before .before .before .if3 .left, sym (c .before .before .before .before .before .is-certified .ensures) ∙ c .before .before .before .before .if4 .left, sym (c .before .before .before .other-holds .ensures) ∙ c .before .before .if5 .left, c .before .answer-read .ensures, c .allow .ensures)
 
 pub judge-read-spec : {M : Type 1} → statement M
 judge-read-spec =
@@ -86,4 +89,5 @@ judge-read-spec =
     refuse-requires-5
     returns-5
     answer-read-requires
+    allow-requires
     returns-6)

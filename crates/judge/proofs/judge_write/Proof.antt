@@ -63,9 +63,12 @@ returns-6 : tie.Need-returns-6
 unfolding writeRuled
 returns-6 c = simp (writeRuled, sym (c .before .before .before .before .before .before .before .before .before .before .before .before .before .lacks-item .ensures) ∙ c .before .before .before .before .before .before .before .before .before .before .before .before .if1 .left, eq-eqb _ _ (c .before .before .before .before .before .before .before .before .before .if2 .left), sym (c .before .before .before .before .before .before .before .before .is-signalled .ensures) ∙ c .before .before .before .before .before .before .before .if3 .left, sym (c .before .before .before .before .before .before .is-certified .ensures) ∙ c .before .before .before .before .before .if4 .left, lt-leb _ _ (c .before .before .before .if5 .left), sym (c .before .before .other-claims .ensures) ∙ c .before .if6 .taken, c .refuse6 .ensures)
 
+allow-requires : tie.Need-allow-requires
+allow-requires c κs = search needs
+
 returns-7 : tie.Need-returns-7
 unfolding writeRuled
-returns-7 c = rw (writeRuled, sym (c .before .before .before .before .before .before .before .before .before .before .before .before .lacks-item .ensures) ∙ c .before .before .before .before .before .before .before .before .before .before .before .if1 .left, eq-eqb _ _ (c .before .before .before .before .before .before .before .before .if2 .left), sym (c .before .before .before .before .before .before .before .is-signalled .ensures) ∙ c .before .before .before .before .before .before .if3 .left, sym (c .before .before .before .before .before .is-certified .ensures) ∙ c .before .before .before .before .if4 .left, lt-leb _ _ (c .before .before .if5 .left), sym (c .before .other-claims .ensures) ∙ c .if6 .left)
+returns-7 c = rw (writeRuled, sym (c .before .before .before .before .before .before .before .before .before .before .before .before .before .lacks-item .ensures) ∙ c .before .before .before .before .before .before .before .before .before .before .before .before .if1 .left, eq-eqb _ _ (c .before .before .before .before .before .before .before .before .before .if2 .left), sym (c .before .before .before .before .before .before .before .before .is-signalled .ensures) ∙ c .before .before .before .before .before .before .before .if3 .left, sym (c .before .before .before .before .before .before .is-certified .ensures) ∙ c .before .before .before .before .before .if4 .left, lt-leb _ _ (c .before .before .before .if5 .left), sym (c .before .before .other-claims .ensures) ∙ c .before .if6 .left, c .allow .ensures)
 
 pub judge-write-spec : {M : Type 1} → statement M
 judge-write-spec =
@@ -88,4 +91,5 @@ judge-write-spec =
     other-claims-requires
     refuse-requires-6
     returns-6
+    allow-requires
     returns-7)
