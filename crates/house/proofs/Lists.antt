@@ -3,10 +3,10 @@
 use Prim.Native.Nat.{ℕ, zero, suc, _+_, _<_, _≤_}
 use native.Mathlib.Omega.{arith}
 use native.Mathlib.Nat.{add-zero, zero-add}
-use mathlib.Core.Logic.{_≢_, _⊎_, inl, inr, ⊎-elim}
+use mathlib.Core.Logic.{_≢_, inl, inr}
 use mathlib.Core.Path.{_≡_, refl, sym, ap, _∙_}
 use mathlib.Core.List.{List, [], _∷_}
-use lib.ListN.{length, getD, set, length-set, replicate}
+use lib.ListN.{length, getD, set, length-set}
 use lib.Seq.{ext-getD, getD-set-same, getD-set-other}
 use Rattle.house.specs.Search.{mapFrom}
 use Rattle.house.proofs.Tests.{same}
@@ -25,16 +25,6 @@ module _ {A : Type 0} where
 
   pub getD-mapFrom : (f : ℕ → A → A) (l : List A) (n : ℕ) (d : A) → n < length l → getD (mapFrom 0 f l) n d ≡ f n (getD l n d)
   getD-mapFrom f l n d h = from-k 0 f l n d h ∙ rw zero-add
-
-  pub length-replicate : (n : ℕ) (x : A) → length (replicate n x) ≡ n
-  length-replicate zero x = refl
-  length-replicate (suc n) x = ap suc (length-replicate n x)
-
-  -- also past its end
-  pub getD-replicate : (n i : ℕ) (d : A) → getD (replicate n d) i d ≡ d
-  getD-replicate zero i d = refl
-  getD-replicate (suc n) zero d = refl
-  getD-replicate (suc n) (suc i) d = getD-replicate n i d
 
 -- the elements whose key is below i have been through f; key n is the round of the loop that handles element n
 pub record Sofar {A : Type 0} (d : A) (key : ℕ → ℕ) (f : ℕ → A → A) (i : ℕ) (l out : List A) : Type 0 where

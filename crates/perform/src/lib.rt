@@ -6,7 +6,7 @@ mod sweeps;
 ghost use mathlib.Core.Path.{_≡_};
 ghost use Prim.Native.Nat.{_<_};
 ghost use Rattle.house.specs.House.{withPending};
-ghost use Rattle.house.specs.Rules.{ticketAfter, left};
+ghost use Rattle.house.specs.Rules.{left};
 ghost use Rattle.perform.specs.Sweep.{endedItem};
 ghost use Rattle.ruling.specs.Ruling.{fits, changed};
 use house::House;

@@ -5,12 +5,12 @@ use native.Mathlib.Omega.{arith}
 use native.Mathlib.Nat.{add-zero, mod-eq-of-lt}
 use mathlib.Core.Path.{_≡_, refl, sym, ap, _∙_}
 use mathlib.Core.Logic.{_≢_, inl, inr}
-use mathlib.Core.Bool.{Bool, true, false, cond, _&&_, _||_, not}
+use mathlib.Core.Bool.{Bool, true, false, cond, _||_, not}
 use mathlib.Core.List.{List, [], _∷_, _++_}
-use lib.ListN.{getD, replicate}
+use lib.ListN.{getD, replicate, length-replicate}
 use lib.Seq.{getD-append-add}
-use lib.Dec.{eqb, ltb, leb}
-use borrow.Author.Tests.{eq-eqb, ne-eqb, ltb-false, leb-false, not-true}
+use lib.Dec.{eqb, leb}
+use borrow.Author.Tests.{ne-eqb, ltb-false, leb-false, not-true}
 use Rattle.house.specs.declared.Found.{Found}
 use Rattle.house.specs.declared.Found.the-variants.{At, Nobody}
 use Rattle.house.specs.declared.House.{House}
@@ -20,11 +20,10 @@ use Rattle.house.specs.declared.Request.{Request}
 use Rattle.house.specs.declared.Standing.{Standing}
 use Rattle.house.specs.Search.{scan, find, ifFound, nobody}
 use Rattle.house.specs.House.{blank, vacant, itemAt, placeAt, nextAt, freeAt, hasTicket, seek, vacancy}
-use Rattle.house.specs.Rules.{begin, read, write, certify, commit, abort, _does_, asker, noOperation, noLevel, unusedSet, unknown, noItem, forbidden, stopped, untimely, wornOut, crowded, ticketless, conflict, delayed, checks, foremost, verdict, askAnswer}
+use Rattle.house.specs.Rules.{read, write, certify, _does_, asker, noOperation, noLevel, unusedSet, unknown, noItem, forbidden, stopped, untimely, wornOut, crowded, ticketless, conflict, delayed, checks, foremost, verdict, askAnswer}
 use Rattle.house.proofs.Tests.{is, same, and-true, or-false, or-right}
 use Rattle.house.proofs.Checks.{numbered}
 use Rattle.house.proofs.Searches.{find-at}
-use Rattle.house.proofs.Lists.{length-replicate}
 use Rattle.house.specs.declared.Answer.the-variants.{Done, Ticket}
 use Rattle.ruling.specs.declared.Change.the-variants.{Nothing, Begin, Abort}
 use Rattle.ruling.specs.declared.Ruling.{Ruling}

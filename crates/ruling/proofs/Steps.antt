@@ -1,23 +1,19 @@
 -- The ruling of a request and the change made of it are the step of the rules.
 -- Assumes nothing.
 use Prim.Native.Nat.{ℕ, _<_}
-use native.Mathlib.Omega.{arith}
-use mathlib.Core.Path.{_≡_, refl, sym, ap, _∙_}
-use mathlib.Core.Logic.{_≢_, inl, inr}
-use mathlib.Core.Bool.{Bool, true, false, cond, _&&_, _||_, not}
+use mathlib.Core.Path.{_≡_, refl}
+use mathlib.Core.Logic.{inl, inr}
+use mathlib.Core.Bool.{true, false}
 use lib.Dec.{eqb, ltb, leb}
 use borrow.Author.Tests.{eqb-true, eqb-false, lt-ltb, leb-false}
-use Rattle.house.specs.declared.Answer.{Answer}
-use Rattle.house.specs.declared.Found.the-variants.{At}
 use Rattle.house.specs.declared.House.{House}
 use Rattle.house.specs.declared.Request.{Request}
 use Rattle.house.specs.House.{vacancy}
-use Rattle.house.specs.Rules.{begin, read, write, certify, commit, abort, _does_, usesItem, asker, noItem, crowded, verdict, outcome, served, performed, stepped}
+use Rattle.house.specs.Rules.{begin, read, write, certify, commit, abort, _does_, usesItem, noItem, crowded, verdict, outcome, served, performed, stepped}
 use Rattle.house.proofs.Tests.{is, and-intro, and-right-false, or-false, or-left, or-right}
 use Rattle.house.proofs.Places.{seek-at, vacancy-at}
 use Rattle.house.proofs.Checks.{Clear, clear, somebody, asker-known}
 use Rattle.ruling.specs.declared.Change.{Change}
-use Rattle.ruling.specs.declared.Ruling.{Ruling}
 use Rattle.ruling.specs.Ruling.{effect, fits, changed, granted, ruled}
 
 -- a change that fits is made
