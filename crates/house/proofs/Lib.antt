@@ -7,3 +7,4 @@ pub mod Places
 pub mod Effects
 pub mod Checks
 pub mod Openings
+pub mod Runs

@@ -23,7 +23,7 @@ use Rattle.house.proofs.Tests.{is, same, clash, or-false}
 use Rattle.house.proofs.Searches.{any-none}
 use Rattle.house.proofs.Effects.{begun-place, begun-next, certified-place, certified-cell, left-item, left-place, begun-next-other, read-cell-other, written-cell-other, written-item-other}
 use Rattle.house.proofs.Openings.{opened-sizes, opened-item, opened-place, opened-cell, opened-next}
-use Rattle.reach.specs.Reach.{finally}
+use Rattle.house.specs.Run.{finally}
 use Rattle.reach.specs.Kept.{Open, wrote, Kept, OpeningHas, StepKeeps, ReachableHas}
 use Rattle.reach.proofs.Law.{held, Law, Frame, Own, clear-has, clear-held, clear-law, held-kept, lawful}
 use Rattle.reach.proofs.Turns.{MayBegin, MayRead, MayWrite, MayCertify, MayCommit, Turn, refused, begins, reads, writes, certifies, commits, aborts, asks, turn}

@@ -14,7 +14,7 @@ use Rattle.house.specs.Rules.{commit, stepped}
 use Rattle.house.specs.Opening.{opened, opening}
 use Rattle.house.proofs.Tests.{is, clash}
 use Rattle.house.proofs.Openings.{opened-sizes, opened-place, opened-cell}
-use Rattle.reach.specs.Reach.{finally}
+use Rattle.house.specs.Run.{finally}
 use Rattle.reach.proofs.Law.{clear-law}
 use Rattle.serial.specs.Demand.{Event, trace, done, wrote, Name, name, doing, work, commits, Row, Table, table, answer, answers, look, run, serially, Demand3, Untouched, OfUntouched, OfOpened}
 use Rattle.serial.proofs.Past.{Past, doings, shown, alone, Repeats, serial, Serial}
@@ -163,11 +163,6 @@ pub demand : OfOpened
 demand levels qs = untouched-demand (opening levels .house) (opening-untouched levels) qs
 
 -- Requests that come in two parts
-
-pub finally-append : (h : House) (qs rs : List Request) → finally h (qs ++ rs) ≡ finally (finally h qs) rs
-unfolding finally
-finally-append h [] rs = refl
-finally-append h (q ∷ qs) rs = finally-append (stepped h q .house) qs rs
 
 pub trace-append : (h : House) (qs rs : List Request) → trace h (qs ++ rs) ≡ trace h qs ++ trace (finally h qs) rs
 unfolding trace finally

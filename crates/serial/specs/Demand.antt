@@ -16,7 +16,7 @@ use Rattle.house.specs.Cell.{cellAt}
 use Rattle.house.specs.House.{Sizes, placeAt, isFree}
 use Rattle.house.specs.Rules.{read, write, commit, _does_, stepped}
 use Rattle.house.specs.Opening.{opening}
-use Rattle.reach.specs.Reach.{finally}
+use Rattle.house.specs.Run.{finally}
 
 -- WHAT THE DESK DID
 

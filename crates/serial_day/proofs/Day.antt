@@ -8,7 +8,7 @@ use Rattle.house.specs.Cell.{has, marked, unmarked, cellAt, withMark, mapCells,
 use Rattle.house.specs.House.{dominates, above, freeAt, hasTicket, seek, vacancy}
 use Rattle.house.specs.Rules.{noOperation, noLevel, unusedSet, unknown, noItem, forbidden, stopped, untimely, wornOut, crowded, ticketless, waitsAt, conflict, delayed, checks, verdict, ticketAfter, grown, begun, readBy, readAnswer, writtenBy, certifiedCell, certifiedBy, clearedCell, left, committedItem, abortedItem, askAnswer, served, performed, stepped}
 use Rattle.house.specs.Opening.{wrongLength, highAt, wrongLevel, openVerdict, rowAt, rows, opened, opening}
-use Rattle.reach.specs.Reach.{finally}
+use Rattle.house.specs.Run.{finally}
 use Rattle.serial.specs.Demand.{trace, table, doing, work, commits, answers, look, run, serially}
 use Rattle.serial_day.specs.Day.{day, start, requests, Worked}
 

@@ -8,7 +8,7 @@ use Rattle.house.specs.declared.House.{House}
 use Rattle.house.specs.declared.Request.{Request}
 use Rattle.house.specs.Rules.{begin, read, write, certify, commit, abort}
 use Rattle.house.specs.Opening.{opening}
-use Rattle.reach.specs.Reach.{finally}
+use Rattle.house.specs.Run.{finally}
 use Rattle.serial.specs.Demand.{Event, trace, work, commits, Row, Table, table, answers, serially}
 
 -- a request, with what it is answered: number, value and version
