@@ -21,13 +21,13 @@ struct recipe {
 };
 
 static const struct recipe recipes[MIXES] = {
-    [REFUSED_HEAVY] = {.stale = 690, .begins = 110, .wrong_level = 60, .wrong_time = 40,
+    [REFUSED_HEAVY] = {.stale = 715, .begins = 110, .wrong_level = 60, .wrong_time = 40,
                        .misshapen = 20, .crowd = 8, .heed = 500, .own_level = 400,
-                       .weights = {0, 50, 15, 10, 0, 10, 10}},
-    [DONE_HEAVY] = {.misshapen = 20, .crowd = 4, .heed = 900, .own_level = 300,
+                       .weights = {0, 60, 20, 12, 0, 4, 8}},
+    [DONE_HEAVY] = {.misshapen = 20, .crowd = 4, .heed = 700, .own_level = 300,
                     .weights = {0, 530, 330, 130, 0, 40, 40}},
-    [PRESSED] = {.misshapen = 15, .begins = 12, .crowd = 8, .heed = 400, .own_level = 350,
-                 .weights = {0, 560, 230, 80, 0, 35, 15}},
+    [PRESSED] = {.begins = 12, .misshapen = 15, .crowd = 8, .heed = 200, .own_level = 150,
+                 .weights = {0, 500, 320, 80, 0, 25, 15}},
 };
 
 struct maker {
