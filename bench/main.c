@@ -120,44 +120,59 @@ static void growth(size_t most, int rounds) {
     free(replies);
 }
 
-// One desk, one mix, for the counting of instructions.
-static void once(enum mix mix, const struct desk *desk, size_t count, int times) {
-    uint8_t *requests = need(count * REQUEST_BYTES), *replies = need(count * REPLY_BYTES);
+// Traffic on standard output, for `once`.
+static void make(enum mix mix, size_t count) {
+    uint8_t *requests = need(count * REQUEST_BYTES);
     traffic_make(mix, SEED, requests, count);
+    if (fwrite(requests, REQUEST_BYTES, count, stdout) != count) exit(2);
+    free(requests);
+}
+
+// One desk on the traffic of standard input, for the counting of instructions.
+static void once(const struct desk *desk, size_t count, int times) {
+    uint8_t *requests = need(count * REQUEST_BYTES), *replies = need(count * REPLY_BYTES);
+    if (fread(requests, REQUEST_BYTES, count, stdin) != count) exit(2);
     for (int t = 0; t < times; t++) serve_all(desk, requests, count, replies);
     free(requests);
     free(replies);
 }
 
-static enum mix mix_named(const char *name) {
-    int mix = 0;
-    while (mix < MIXES && strcmp(mix_names[mix], name) != 0) mix++;
-    return (enum mix)mix;
+static int usage(void) {
+    fprintf(stderr, "usage: bench desks\n"
+                    "       bench time REQUESTS ROUNDS\n"
+                    "       bench growth MOST ROUNDS\n"
+                    "       bench make MIX REQUESTS\n"
+                    "       bench once DESK REQUESTS TIMES\n");
+    return 2;
+}
+
+static size_t number(const char *word) { return strtoul(word, NULL, 10); }
+
+static int act(int words, char **word) {
+    const char *mode = words > 0 ? word[0] : "";
+    if (strcmp(mode, "desks") == 0 && words == 1) {
+        for (size_t d = 0; d < desk_count; d++) puts(desks[d].name);
+    } else if (strcmp(mode, "time") == 0 && words == 3) {
+        for (int mix = 0; mix < MIXES; mix++)
+            time_mix((enum mix)mix, number(word[1]), (int)number(word[2]));
+    } else if (strcmp(mode, "growth") == 0 && words == 3) {
+        growth(number(word[1]), (int)number(word[2]));
+    } else if (strcmp(mode, "make") == 0 && words == 3) {
+        int mix = 0;
+        while (mix < MIXES && strcmp(mix_names[mix], word[1]) != 0) mix++;
+        if (mix == MIXES) return usage();
+        make((enum mix)mix, number(word[2]));
+    } else if (strcmp(mode, "once") == 0 && words == 4 && desk_named(word[1])) {
+        once(desk_named(word[1]), number(word[2]), (int)number(word[3]));
+    } else {
+        return usage();
+    }
+    return 0;
 }
 
 int main(int argc, char **argv) {
-    const char *mode = argc > 1 ? argv[1] : "";
-    if (strcmp(mode, "desks") == 0 && argc == 2) {
-        for (size_t d = 0; d < desk_count; d++) puts(desks[d].name);
-        return 0;
-    }
     if (desk_count > MOST_DESKS || !desks_start()) return 2;
-    bool known = true;
-    if (strcmp(mode, "time") == 0 && argc == 4) {
-        for (int mix = 0; mix < MIXES; mix++)
-            time_mix((enum mix)mix, strtoul(argv[2], NULL, 10), atoi(argv[3]));
-    } else if (strcmp(mode, "growth") == 0 && argc == 4) {
-        growth(strtoul(argv[2], NULL, 10), atoi(argv[3]));
-    } else if (strcmp(mode, "once") == 0 && argc == 6 && mix_named(argv[2]) < MIXES &&
-               desk_named(argv[3])) {
-        once(mix_named(argv[2]), desk_named(argv[3]), strtoul(argv[4], NULL, 10), atoi(argv[5]));
-    } else {
-        known = false;
-        fprintf(stderr, "usage: bench desks\n"
-                        "       bench time REQUESTS ROUNDS\n"
-                        "       bench growth MOST ROUNDS\n"
-                        "       bench once MIX DESK REQUESTS TIMES\n");
-    }
+    int status = act(argc - 1, argv + 1);
     desks_stop();
-    return known ? 0 : 2;
+    return status;
 }
