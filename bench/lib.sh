@@ -6,7 +6,8 @@ LIBRARY=${LIBRARY:-target/staticlib/libport.a}
 out=target/bench
 machine=$(uname -m)
 cc=${CC:-gcc}
-strict='-std=c11 -D_DEFAULT_SOURCE -Wall -Wextra -Wpedantic'
+items=${ITEMS:-16}
+strict="-DITEMS=$items -std=c11 -D_DEFAULT_SOURCE -Wall -Wextra -Wpedantic"
 mkdir -p "$out"
 
 # The kit's compiler and, off x86-64, its emulator.
@@ -90,8 +91,8 @@ build() { # FOLDER [bdb] [LIBRARY]
 }
 
 # Off x86-64 the library cannot be linked. The LLVM module that `rt staticlib` compiles is then compiled for this machine
-# too, by the same clang at the same -O3: the same program, for a time; it is not the archive itself. The module is caught on
-# its way, by a kit folder of links whose clang keeps a copy.
+# too, by the same clang at -O3, so that it can be timed; it is not the archive itself. The module is caught on its way, by a
+# kit folder of links whose clang keeps a copy.
 retarget() { # LIBRARY OBJECT
     local name folder=$out/kit file part
     name=$(basename "$1" .a)
@@ -112,6 +113,10 @@ EOS
     rm -f "$out/module.bc"
     RATTLE_HOME=$PWD/$folder rt staticlib "${name#lib}" >"$out/staticlib.log" 2>&1 || return 1
     rm -rf "$folder"
-    "$tools/bin/clang" --target="$machine-unknown-linux-gnu" -ffunction-sections -fdata-sections --no-default-config \
-        -Wno-override-module -O3 -fPIC -c -x ir "$out/module.bc" -o "$2" 2>"$out/retarget.log"
+    # As text, without what it says of x86-64, or the compiler would leave this machine's vector unit unused.
+    "$tools/bin/clang" --target=x86_64-unknown-linux-gnu --no-default-config -O3 -Xclang -disable-llvm-passes -S -emit-llvm \
+        -x ir "$out/module.bc" -o "$out/module.ll" &&
+        sed -i -E 's/ "(target-cpu|target-features|tune-cpu)"="[^"]*"//g; /^target (datalayout|triple) = /d' "$out/module.ll" &&
+        "$tools/bin/clang" --target="$machine-unknown-linux-gnu" -ffunction-sections -fdata-sections --no-default-config \
+            -Wno-override-module -O3 -fPIC -c -x ir "$out/module.ll" -o "$2"
 }

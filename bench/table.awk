@@ -12,7 +12,8 @@ BEGIN {
     meaning[11] = "all places taken"; meaning[12] = "no ticket left"
 }
 $1 == "meta" { value = $5; for (k = 6; k <= NF; k++) value = value "," $k; meta[$3] = value }
-$1 == "time" { time[$2, $3] = $5; size = $4; if (!($3 in seen)) { seen[$3] = 1; desks[++n] = $3 } }
+$1 == "time" || $1 == "x86_64" { if (!($3 in seen)) { seen[$3] = 1; desks[++n] = $3 } }
+$1 == "time" { time[$2, $3] = $5; size = $4 }
 $1 == "instructions" { instructions[$2, $3] = $5; counted = $4 }
 $1 == "x86_64" { foreign[$2, $3] = $5; few = $4 }
 $1 == "growth" { growth[$3, $4] = $5; if (!($4 in sized)) { sized[$4] = 1; sizes[++g] = $4 } }
@@ -67,12 +68,13 @@ END {
     row("ns per request by requests served in one run, done-heavy", line); print "|---|" rule
     for (d = 1; d <= n; d++) {
         line = ""
+        if (!((desks[d], sizes[1]) in growth)) continue
         for (k = 1; k <= g; k++) line = line sprintf(" %.1f |", growth[desks[d], sizes[k]])
         row(words[desks[d]], line)
     }
     print ""
 
-    print "Measured on " meta["date"] " (" meta["machine"] "), " size " requests of each traffic, least of " meta["rounds"] " rounds over all desks in turn; replies of all desks compared byte for byte first."
+    print "Measured on " meta["date"] " (" meta["machine"] "), " size " requests of each traffic over " meta["items"] " items, least of " meta["rounds"] " rounds over all desks in turn; replies of all desks compared byte for byte first."
     print "Plain C by " meta["plain by"] "; tuned C by " meta["tuned by"] ("bdb" in meta ? "; " meta["bdb"] : "; Berkeley DB was not to be had, so its row is missing") "; kit " meta["kit"] "."
     if (counted) print "Instructions: callgrind, " counted " requests."
     if (meta["proved"] == "") print "The proved desk is not in this table: its library was not there or not usable."

@@ -4,7 +4,10 @@
 
 const char *const mix_names[MIXES] = {"refused", "done", "pressed"};
 
-const uint8_t traffic_levels[TRAFFIC_ITEMS] = {0, 1, 2, 3, 0, 1, 2, 3, 0, 1, 2, 3, 0, 1, 2, 3};
+_Static_assert(ITEMS % 4 == 0 && ITEMS > 0 && ITEMS <= 64, "items of the traffic");
+#define FOUR 0, 1, 2, 3
+#define SIXTEEN FOUR, FOUR, FOUR, FOUR
+const uint8_t traffic_levels[MOST_ITEMS] = {SIXTEEN, SIXTEEN, SIXTEEN, SIXTEEN};
 
 // Of a thousand requests.
 struct recipe {

@@ -8,8 +8,12 @@ enum mix { REFUSED_HEAVY, DONE_HEAVY, PRESSED, MIXES };
 
 extern const char *const mix_names[MIXES];   // short, for the command line and the raw figures
 
-enum { TRAFFIC_ITEMS = 16 };
-extern const uint8_t traffic_levels[TRAFFIC_ITEMS];   // four items on each level
+// Items of the house, a multiple of four: as many on each level.
+#ifndef ITEMS
+#define ITEMS 16
+#endif
+enum { TRAFFIC_ITEMS = ITEMS };
+extern const uint8_t traffic_levels[MOST_ITEMS];   // the first TRAFFIC_ITEMS count
 
 // Writes `count` requests. The same mix, count and seed always give the same bytes, and a smaller
 // count gives the first of them.
