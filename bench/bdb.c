@@ -1,0 +1,258 @@
+// A desk whose lock table is Berkeley DB's lock manager: every conflict is found by it, from the
+// matrix of document 01, and every lock is set and released in it. What it does not know (tickets
+// and places, values and versions, signals) is kept beside, in bit sets.
+#include "bdb.h"
+
+#include <db.h>
+#include <stdio.h>
+#include <stdlib.h>
+#include <string.h>
+
+enum { FREE, ACTIVE, CERTIFIED };
+enum { NOBODY = -1 };
+
+// Numbers of modes that Berkeley DB gives no meaning of its own beyond the matrix (3 and 7 have one).
+enum { MODE_READ = DB_LOCK_READ, MODE_WRITE = DB_LOCK_WRITE, MODE_SIGNAL = DB_LOCK_IREAD,
+       MODE_CERTIFY = DB_LOCK_IWR, MODES = DB_LOCK_WWRITE + 1 };
+
+struct place {
+    uint32_t ticket;
+    uint8_t standing;
+    uint32_t locker;
+    uint64_t reads, writes, signalled;   // one bit for each item
+    DB_LOCK written[MOST_ITEMS];         // the locks behind `writes`
+};
+
+static struct {
+    size_t count;
+    uint32_t value[MOST_ITEMS], version[MOST_ITEMS], pending[MOST_ITEMS];
+    uint8_t level[MOST_ITEMS];
+    struct place places[PLACES];
+    uint32_t next_ticket[LEVELS];
+} house;
+
+static DB_ENV *env;
+static uint64_t calls;
+
+// A failure that is no conflict has no place in document 01: stop, so that no figure comes of it.
+static void must(int status, const char *what) {
+    if (status == 0) return;
+    fprintf(stderr, "Berkeley DB: %s: %s\n", what, db_strerror(status));
+    exit(2);
+}
+
+bool bdb_start(void) {
+    // Requested by held, as document 01 has it; Berkeley DB looks up [held][requested].
+    static const struct { int requested, held; } in_conflict[] = {
+        {MODE_READ, MODE_CERTIFY},    {MODE_WRITE, MODE_WRITE},    {MODE_WRITE, MODE_CERTIFY},
+        {MODE_SIGNAL, MODE_CERTIFY},  {MODE_CERTIFY, MODE_READ},   {MODE_CERTIFY, MODE_WRITE},
+        {MODE_CERTIFY, MODE_CERTIFY},
+    };
+    uint8_t matrix[MODES * MODES] = {0};
+    for (size_t k = 0; k < sizeof in_conflict / sizeof *in_conflict; k++)
+        matrix[in_conflict[k].held * MODES + in_conflict[k].requested] = 1;
+    int status = db_env_create(&env, 0);
+    if (status == 0) status = env->set_lk_conflicts(env, matrix, MODES);
+    if (status == 0) status = env->set_lk_max_lockers(env, 1000);
+    if (status == 0) status = env->set_lk_max_locks(env, 10000);
+    if (status == 0) status = env->set_lk_max_objects(env, 1000);
+    if (status == 0) status = env->set_lk_partitions(env, 1);
+    if (status == 0)
+        status = env->open(env, NULL, DB_CREATE | DB_PRIVATE | DB_INIT_LOCK, 0);
+    if (status == 0) return true;
+    fprintf(stderr, "Berkeley DB: %s\n", db_strerror(status));
+    return false;
+}
+
+void bdb_stop(void) {
+    if (env) env->close(env, 0);
+    env = NULL;
+}
+
+static DBT object_of(uint16_t *item) { return (DBT){.data = item, .size = sizeof *item}; }
+
+static bool locked(uint32_t locker, uint16_t item, int mode, DB_LOCK *lock) {
+    DBT object = object_of(&item);
+    calls++;
+    int status =
+        env->lock_get(env, locker, DB_LOCK_NOWAIT, &object, (db_lockmode_t)mode, lock);
+    if (status == DB_LOCK_NOTGRANTED) return false;
+    must(status, "lock_get");
+    return true;
+}
+
+static void release(struct place *me) {
+    DB_LOCKREQ all = {.op = DB_LOCK_PUT_ALL};
+    calls += 2;
+    must(env->lock_vec(env, me->locker, 0, &all, 1, NULL), "lock_vec");
+    must(env->lock_id_free(env, me->locker), "lock_id_free");
+    me->ticket = 0;
+    me->standing = FREE;
+    me->reads = me->writes = me->signalled = 0;
+}
+
+int bdb_open(const uint8_t *levels, size_t n) {
+    for (int p = 0; p < PLACES; p++)
+        if (house.places[p].standing != FREE) release(&house.places[p]);
+    memset(&house, 0, sizeof house);
+    calls = 0;
+    for (int l = 0; l < LEVELS; l++) house.next_ticket[l] = 1;
+    int refusal = misopened(levels, n);
+    if (refusal) return refusal;
+    house.count = n;
+    memcpy(house.level, levels, n);
+    return 0;
+}
+
+static int find(int level, uint32_t ticket) {
+    int first = level * PLACES_PER_LEVEL;
+    for (int p = first; p < first + PLACES_PER_LEVEL; p++)
+        if (house.places[p].standing != FREE && house.places[p].ticket == ticket) return p;
+    return NOBODY;
+}
+
+static int begin(const struct request *q, struct reply *a) {
+    int first = q->level * PLACES_PER_LEVEL, p = first;
+    while (p < first + PLACES_PER_LEVEL && house.places[p].standing != FREE) p++;
+    if (p == first + PLACES_PER_LEVEL) return PLACES_TAKEN;
+    uint32_t ticket = house.next_ticket[q->level];
+    if (ticket == 0) return TICKETS_SPENT;
+    house.next_ticket[q->level] = ticket + 1;
+    calls++;
+    must(env->lock_id(env, &house.places[p].locker), "lock_id");
+    house.places[p].standing = ACTIVE;
+    house.places[p].ticket = ticket;
+    a->ticket = ticket;
+    return DONE;
+}
+
+static int read_item(const struct request *q, struct place *me, struct reply *a) {
+    if (q->item >= house.count) return NO_ITEM;
+    if (house.level[q->item] > q->level) return WRONG_LEVEL;
+    if (me->signalled) return SIGNALLED;
+    if (me->standing != ACTIVE) return WRONG_TIME;
+    uint64_t bit = UINT64_C(1) << q->item;
+    // A lock that is held is not asked for again: no certify can have come over it from its level,
+    // and one from below has signalled it, which was answered 2 above.
+    if (!(me->reads & bit)) {
+        DB_LOCK lock;
+        int mode = house.level[q->item] < q->level ? MODE_SIGNAL : MODE_READ;
+        if (!locked(me->locker, q->item, mode, &lock)) return DELAYED;
+        me->reads |= bit;
+    }
+    bool own = me->writes & bit;
+    a->value = own ? house.pending[q->item] : house.value[q->item];
+    a->version = house.version[q->item] + (own ? 1 : 0);
+    return DONE;
+}
+
+static int write_item(const struct request *q, struct place *me) {
+    if (q->item >= house.count) return NO_ITEM;
+    if (house.level[q->item] != q->level) return WRONG_LEVEL;
+    if (me->signalled) return SIGNALLED;
+    if (me->standing != ACTIVE) return WRONG_TIME;
+    if (house.version[q->item] == UINT32_MAX) return VERSIONS_SPENT;
+    uint64_t bit = UINT64_C(1) << q->item;
+    if (!(me->writes & bit)) {
+        if (!locked(me->locker, q->item, MODE_WRITE, &me->written[q->item])) return DELAYED;
+        me->writes |= bit;
+    }
+    house.pending[q->item] = q->value;
+    return DONE;
+}
+
+// All write locks become certify locks or none does: the certify locks are taken beside the write
+// locks, and then one kind or the other is released.
+static int certify(const struct request *q, struct place *me) {
+    if (me->signalled) return SIGNALLED;
+    if (me->standing != ACTIVE) return WRONG_TIME;
+    DB_LOCKREQ asked[MOST_ITEMS], *failed = NULL;
+    uint16_t numbers[MOST_ITEMS];
+    DBT objects[MOST_ITEMS];
+    int n = 0;
+    for (uint16_t i = 0; i < house.count; i++) {
+        if (!(me->writes >> i & 1)) continue;
+        numbers[n] = i;
+        objects[n] = object_of(&numbers[n]);
+        asked[n] = (DB_LOCKREQ){.op = DB_LOCK_GET, .mode = (db_lockmode_t)MODE_CERTIFY,
+                                .obj = &objects[n]};
+        n++;
+    }
+    if (n > 0) {
+        calls += 2;
+        int status = env->lock_vec(env, me->locker, DB_LOCK_NOWAIT, asked, n, &failed);
+        bool granted = status == 0;
+        if (!granted && status != DB_LOCK_NOTGRANTED) must(status, "lock_vec");
+        int got = granted ? n : (int)(failed - asked);
+        for (int k = 0; k < got; k++) {
+            asked[k].op = DB_LOCK_PUT;
+            if (granted) asked[k].lock = me->written[numbers[k]];
+        }
+        if (got > 0) must(env->lock_vec(env, me->locker, 0, asked, got, NULL), "lock_vec");
+        else calls--;
+        if (!granted) return DELAYED;
+    }
+    for (int p = (q->level + 1) * PLACES_PER_LEVEL; p < PLACES; p++)
+        house.places[p].signalled |= house.places[p].reads & me->writes;
+    me->standing = CERTIFIED;
+    return DONE;
+}
+
+static int end(struct place *me, bool keep) {
+    for (size_t i = 0; i < house.count; i++) {
+        if (!(me->writes >> i & 1)) continue;
+        if (keep) {
+            house.value[i] = house.pending[i];
+            house.version[i]++;
+        }
+        house.pending[i] = 0;
+    }
+    release(me);
+    return DONE;
+}
+
+static int commit(struct place *me) {
+    if (me->signalled) return SIGNALLED;
+    if (me->standing != CERTIFIED) return WRONG_TIME;
+    return end(me, true);
+}
+
+static int ask(const struct place *me, struct reply *a) {
+    for (size_t i = house.count; i-- > 0;) {
+        if (!(me->signalled >> i & 1)) continue;
+        a->item = (uint16_t)i;
+        a->value++;
+    }
+    return DONE;
+}
+
+static int serve(const struct request *q, struct reply *a) {
+    int refusal = misshapen(q);
+    if (refusal) return refusal;
+    if (q->operation == BEGIN) return begin(q, a);
+    int p = find(q->level, q->ticket);
+    if (p == NOBODY) return NO_TRANSACTION;
+    struct place *me = &house.places[p];
+    switch (q->operation) {
+    case READ: return read_item(q, me, a);
+    case WRITE: return write_item(q, me);
+    case CERTIFY: return certify(q, me);
+    case COMMIT: return commit(me);
+    case ABORT: return end(me, false);
+    default: return ask(me, a);
+    }
+}
+
+size_t bdb_turn(const uint8_t *requests, size_t requests_len, uint8_t *replies, size_t replies_len,
+                size_t most) {
+    size_t count = turn_length(requests_len, replies_len, most);
+    for (size_t k = 0; k < count; k++) {
+        struct request q = request_from(requests + k * REQUEST_BYTES);
+        struct reply a = repeating(&q);
+        a.number = (uint8_t)serve(&q, &a);
+        reply_to(replies + k * REPLY_BYTES, a);
+    }
+    return count;
+}
+
+uint64_t bdb_calls(void) { return calls; }

@@ -1,0 +1,167 @@
+// The worked day and M1 to M12 of document 01 through the two calls of the static library.
+// Says each difference; the exit status is 1 where there is one.
+#include "proved.h"
+#include "wire.h"
+
+#include <stdio.h>
+#include <string.h>
+
+enum { MOST_STEPS = 16, GUARD = 0xa5 };
+
+struct step {
+    struct request request;
+    struct reply reply;
+};
+
+struct example {
+    const char *name;
+    const uint8_t *levels;
+    size_t items, steps;
+    const struct step *step;
+};
+
+static const uint8_t marked_levels[] = {0, 0, 2}, day_levels[] = {0};
+
+// A request beside the reply it must get; l is a level, t a ticket, i an item, n a number.
+#define BEGINS(l, t) {{BEGIN, l, 0, 0, 0}, {DONE, BEGIN, 0, t, 0, 0}}
+#define BEGIN_REFUSED(l, n) {{BEGIN, l, 0, 0, 0}, {n, BEGIN, 0, 0, 0, 0}}
+#define READS(l, t, i, value, version) {{READ, l, i, t, 0}, {DONE, READ, i, t, value, version}}
+#define READ_REFUSED(l, t, i, n) {{READ, l, i, t, 0}, {n, READ, i, t, 0, 0}}
+#define WRITES(l, t, i, value, n) {{WRITE, l, i, t, value}, {n, WRITE, i, t, 0, 0}}
+#define ASKS(l, t, i, count) {{ASK, l, 0, t, 0}, {DONE, ASK, i, t, count, 0}}
+#define CALLS(operation, l, t, n) {{operation, l, 0, t, 0}, {n, operation, 0, t, 0, 0}}
+
+// Level-0 tickets 1 and 2 and level-2 ticket 1 are open.
+#define THREE_OPEN BEGINS(0, 1), BEGINS(0, 2), BEGINS(2, 1)
+#define UP_TO_M6                                                                                 \
+    BEGINS(0, 1), BEGINS(0, 2), BEGINS(0, 3), BEGINS(0, 4), BEGINS(0, 5), BEGINS(0, 6),          \
+        BEGINS(0, 7), BEGINS(0, 8), BEGIN_REFUSED(0, PLACES_TAKEN), BEGINS(1, 1)
+#define UP_TO_M8 THREE_OPEN, WRITES(0, 1, 0, 7, DONE), WRITES(0, 2, 0, 8, DELAYED)
+#define UP_TO_M9 UP_TO_M8, READS(0, 2, 0, 0, 0), CALLS(CERTIFY, 0, 1, DELAYED)
+#define UP_TO_M11                                                                                \
+    THREE_OPEN, READS(2, 1, 0, 0, 0), WRITES(0, 1, 0, 7, DONE), CALLS(CERTIFY, 0, 1, DONE),      \
+        CALLS(CERTIFY, 2, 1, SIGNALLED), ASKS(2, 1, 0, 1)
+
+static const struct step m1[] = {THREE_OPEN, READ_REFUSED(0, 1, 2, WRONG_LEVEL)};
+static const struct step m2[] = {THREE_OPEN, WRITES(2, 1, 0, 7, WRONG_LEVEL)};
+static const struct step m3[] = {THREE_OPEN, READ_REFUSED(0, 1, 3, NO_ITEM)};
+static const struct step m4[] = {THREE_OPEN, READ_REFUSED(0, 0, 0, NO_TRANSACTION)};
+static const struct step m5[] = {THREE_OPEN,
+                                 {{READ, 0, 0, 1, 1}, {UNUSED_SET, READ, 0, 1, 0, 0}}};
+static const struct step m6[] = {UP_TO_M6};
+static const struct step m7[] = {UP_TO_M6, CALLS(ABORT, 0, 3, DONE), BEGINS(0, 9)};
+static const struct step m8[] = {UP_TO_M8};
+static const struct step m9[] = {UP_TO_M9};
+static const struct step m10[] = {UP_TO_M9,
+                                  CALLS(ABORT, 0, 2, DONE),
+                                  CALLS(CERTIFY, 0, 1, DONE),
+                                  CALLS(COMMIT, 0, 1, DONE),
+                                  BEGINS(0, 3),
+                                  READS(0, 3, 0, 7, 1)};
+static const struct step m11[] = {UP_TO_M11};
+static const struct step m12[] = {UP_TO_M11, CALLS(ABORT, 0, 1, DONE),
+                                  CALLS(CERTIFY, 2, 1, SIGNALLED)};
+static const struct step day[] = {BEGINS(0, 1), WRITES(0, 1, 0, 7, DONE), READS(0, 1, 0, 7, 1)};
+
+// The day as document 01 prints it: the layout on the wire is not taken from wire.h alone.
+static const uint8_t day_requests[] = {
+    0, 0, 0, 0, 0, 0, 0, 0, 0, 0, 0, 0, 2, 0, 0, 0, 1, 0, 0, 0, 7, 0, 0, 0,
+    1, 0, 0, 0, 1, 0, 0, 0, 0, 0, 0, 0,
+};
+static const uint8_t day_replies[] = {
+    0, 0, 0, 0, 1, 0, 0, 0, 0, 0, 0, 0, 0, 0, 0, 0, 0, 2, 0, 0, 1, 0, 0, 0,
+    0, 0, 0, 0, 0, 0, 0, 0, 0, 1, 0, 0, 1, 0, 0, 0, 7, 0, 0, 0, 1, 0, 0, 0,
+};
+
+#define EXAMPLE(name, levels, steps)                                                             \
+    {name, levels, sizeof levels, sizeof steps / sizeof *steps, steps}
+static const struct example examples[] = {
+    EXAMPLE("the worked day", day_levels, day), EXAMPLE("M1", marked_levels, m1),
+    EXAMPLE("M2", marked_levels, m2),           EXAMPLE("M3", marked_levels, m3),
+    EXAMPLE("M4", marked_levels, m4),           EXAMPLE("M5", marked_levels, m5),
+    EXAMPLE("M6", marked_levels, m6),           EXAMPLE("M7", marked_levels, m7),
+    EXAMPLE("M8", marked_levels, m8),           EXAMPLE("M9", marked_levels, m9),
+    EXAMPLE("M10", marked_levels, m10),         EXAMPLE("M11", marked_levels, m11),
+    EXAMPLE("M12", marked_levels, m12),
+};
+
+static void show(const char *what, const uint8_t *bytes, size_t len) {
+    printf("  %s", what);
+    for (size_t k = 0; k < len; k++) printf(" %02x", bytes[k]);
+    printf("\n");
+}
+
+// Whether all is as it must be; `count` replies are due, and no byte after them is touched.
+static bool same(const char *example, const char *call, const uint8_t *requests,
+                 const uint8_t *expected, const uint8_t *replies, size_t room, size_t count,
+                 size_t answered) {
+    bool good = answered == count;
+    if (!good) printf("%s, %s: %zu requests answered, not %zu\n", example, call, answered, count);
+    for (size_t k = 0; k < count; k++) {
+        const uint8_t *want = expected + k * REPLY_BYTES, *got = replies + k * REPLY_BYTES;
+        if (memcmp(want, got, REPLY_BYTES) == 0) continue;
+        good = false;
+        printf("%s, %s: reply %zu differs\n", example, call, k + 1);
+        show("request: ", requests + k * REQUEST_BYTES, REQUEST_BYTES);
+        show("expected:", want, REPLY_BYTES);
+        show("got:     ", got, REPLY_BYTES);
+    }
+    for (size_t k = count * REPLY_BYTES; k < room; k++) {
+        if (replies[k] == GUARD) continue;
+        printf("%s, %s: byte %zu, after the last reply, was touched\n", example, call, k);
+        return false;
+    }
+    return good;
+}
+
+static size_t calls, differing;
+
+static void try(const struct example *e) {
+    uint8_t requests[(MOST_STEPS + 1) * REQUEST_BYTES], expected[MOST_STEPS * REPLY_BYTES];
+    uint8_t replies[(MOST_STEPS + 1) * REPLY_BYTES];
+    memset(requests, GUARD, sizeof requests);
+    for (size_t k = 0; k < e->steps; k++) {
+        request_to(requests + k * REQUEST_BYTES, e->step[k].request);
+        reply_to(expected + k * REPLY_BYTES, e->step[k].reply);
+    }
+    if (e->step == day && (memcmp(requests, day_requests, sizeof day_requests) != 0 ||
+                           memcmp(expected, day_replies, sizeof day_replies) != 0)) {
+        printf("%s: wire.h does not write the bytes of document 01\n", e->name);
+        differing++;
+    }
+    size_t whole = e->steps * REQUEST_BYTES, place = e->steps * REPLY_BYTES;
+    // Turns of one request, of a few, and one turn for all; with an unfinished request at the end
+    // and more places than replies; with one place too few.
+    static const size_t mosts[] = {1, 3, 1000000};
+    for (size_t m = 0; m < 3; m++) {
+        char call[32];
+        snprintf(call, sizeof call, "desk_run in turns of %zu", mosts[m]);
+        memset(replies, GUARD, sizeof replies);
+        size_t answered = desk_run(e->levels, e->items, requests, whole + REQUEST_BYTES - 1,
+                                   replies, sizeof replies, mosts[m]);
+        differing += !same(e->name, call, requests, expected, replies, sizeof replies, e->steps,
+                           answered);
+        memset(replies, GUARD, sizeof replies);
+        answered = desk_run(e->levels, e->items, requests, whole, replies, place - 1, mosts[m]);
+        differing += !same(e->name, call, requests, expected, replies, sizeof replies,
+                           e->steps - 1, answered);
+        calls += 2;
+    }
+    memset(replies, GUARD, sizeof replies);
+    size_t answered = desk_step(e->levels, e->items, requests, whole + REQUEST_BYTES - 1, replies,
+                                sizeof replies);
+    differing += !same(e->name, "desk_step", requests, expected, replies, sizeof replies,
+                       e->steps, answered);
+    memset(replies, GUARD, sizeof replies);
+    answered = desk_step(e->levels, e->items, requests, whole, replies, place - 1);
+    differing += !same(e->name, "desk_step", requests, expected, replies, sizeof replies,
+                       e->steps - 1, answered);
+    calls += 2;
+}
+
+int main(void) {
+    size_t count = sizeof examples / sizeof *examples;
+    for (size_t k = 0; k < count; k++) try(&examples[k]);
+    printf("the worked day and M1 to M%zu: %zu calls, %zu differ\n", count - 1, calls, differing);
+    return differing == 0 ? 0 : 1;
+}

@@ -1,0 +1,43 @@
+// The program of document 01 around one of the desks: standard input to standard output.
+// It is there for the comparison with the independent desk, so it reads all input first.
+#include "desks.h"
+
+#include <stdio.h>
+#include <stdlib.h>
+
+static uint8_t *read_all(size_t *len) {
+    size_t room = 1 << 16, got;
+    uint8_t *bytes = malloc(room);
+    *len = 0;
+    while (bytes && (got = fread(bytes + *len, 1, room - *len, stdin)) > 0) {
+        *len += got;
+        if (*len < room) continue;
+        uint8_t *more = realloc(bytes, room *= 2);
+        if (!more) free(bytes);
+        bytes = more;
+    }
+    return bytes;
+}
+
+int main(int argc, char **argv) {
+    const struct desk *desk = argc == 2 ? desk_named(argv[1]) : NULL;
+    if (!desk) return fprintf(stderr, "usage: drive DESK\n"), 2;
+    size_t len;
+    uint8_t *input = read_all(&len);
+    if (!input || !desks_start()) return 2;
+    size_t n = len > 0 ? input[0] : 0;
+    // Levels cut short give 13, as no levels do.
+    int refusal = n >= len ? ITEM_COUNT : desk->open(input + 1, n);
+    size_t count = refusal ? 1 : (len - 1 - n) / REQUEST_BYTES;
+    uint8_t *replies = calloc(count + 1, REPLY_BYTES);
+    if (!replies) return 2;
+    if (refusal)
+        replies[0] = (uint8_t)refusal;
+    else
+        count = desk->run(input + 1, n, input + 1 + n, len - 1 - n, replies, count * REPLY_BYTES);
+    bool written = fwrite(replies, REPLY_BYTES, count, stdout) == count && fflush(stdout) == 0;
+    desks_stop();
+    free(input);
+    free(replies);
+    return written ? 0 : 2;
+}

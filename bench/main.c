@@ -1,0 +1,178 @@
+// The benchmark. Raw figures go to standard output, one line each, as comma-separated values;
+// `run` makes the table and the chart of them.
+#include "desks.h"
+#include "traffic.h"
+
+#include <inttypes.h>
+#include <stdio.h>
+#include <stdlib.h>
+#include <string.h>
+#include <time.h>
+
+enum { SEED = 20240607, MOST_DESKS = 8 };
+
+static void *need(size_t bytes) {
+    void *memory = malloc(bytes);
+    if (!memory) {
+        fprintf(stderr, "bench: no memory for %zu bytes\n", bytes);
+        exit(2);
+    }
+    // Touched once, so that no page is first met while the time is taken.
+    return memset(memory, 0xee, bytes);
+}
+
+static uint64_t now(void) {
+    struct timespec t;
+    clock_gettime(CLOCK_MONOTONIC, &t);
+    return (uint64_t)t.tv_sec * UINT64_C(1000000000) + (uint64_t)t.tv_nsec;
+}
+
+// All that is timed, and all that is counted: callgrind collects while this function runs.
+__attribute__((noinline)) size_t served(const struct desk *desk, const uint8_t *requests,
+                                        size_t count, uint8_t *replies) {
+    return desk->run(traffic_levels, TRAFFIC_ITEMS, requests, count * REQUEST_BYTES, replies,
+                     count * REPLY_BYTES);
+}
+
+static uint64_t serve_all(const struct desk *desk, const uint8_t *requests, size_t count,
+                          uint8_t *replies) {
+    desk->open(traffic_levels, TRAFFIC_ITEMS);
+    uint64_t began = now();
+    size_t answered = served(desk, requests, count, replies);
+    uint64_t took = now() - began;
+    if (answered != count) {
+        fprintf(stderr, "bench: %s answered %zu of %zu requests\n", desk->name, answered, count);
+        exit(1);
+    }
+    return took;
+}
+
+// Every desk's replies are the plain desk's, byte for byte, or nothing is timed.
+static void compare(enum mix mix, const uint8_t *requests, size_t count, const uint8_t *expected,
+                    uint8_t *replies) {
+    for (size_t d = 1; d < desk_count; d++) {
+        memset(replies, 0xee, count * REPLY_BYTES);
+        serve_all(&desks[d], requests, count, replies);
+        size_t k = 0;
+        while (k < count * REPLY_BYTES && replies[k] == expected[k]) k++;
+        if (k == count * REPLY_BYTES) continue;
+        fprintf(stderr, "bench: traffic %s: %s differs from %s at request %zu, byte %zu\n",
+                mix_names[mix], desks[d].name, desks[0].name, k / REPLY_BYTES, k % REPLY_BYTES);
+        exit(1);
+    }
+}
+
+// The mix met: how many requests of each operation got each number.
+static void tell_mix(enum mix mix, const uint8_t *replies, size_t count) {
+    static uint64_t met[256][NUMBERS];
+    memset(met, 0, sizeof met);
+    for (size_t k = 0; k < count; k++)
+        met[replies[k * REPLY_BYTES + 1]][replies[k * REPLY_BYTES]]++;
+    for (int n = 0; n < NUMBERS; n++) {
+        uint64_t others = 0;
+        for (int o = OPERATIONS; o < 256; o++) others += met[o][n];
+        for (int o = 0; o < OPERATIONS; o++)
+            if (met[o][n]) printf("mix,%s,%d,%d,%" PRIu64 "\n", mix_names[mix], o, n, met[o][n]);
+        if (others) printf("mix,%s,other,%d,%" PRIu64 "\n", mix_names[mix], n, others);
+    }
+}
+
+// Rounds over all desks in turn; the least time of each desk counts.
+static void time_desks(const char *what, enum mix mix, const uint8_t *requests, size_t count,
+                       uint8_t *replies, int rounds) {
+    uint64_t least[MOST_DESKS];
+    for (size_t d = 0; d < desk_count; d++) least[d] = UINT64_MAX;
+    for (int r = 0; r < rounds; r++) {
+        for (size_t d = 0; d < desk_count; d++) {
+            uint64_t took = serve_all(&desks[d], requests, count, replies);
+            if (took < least[d]) least[d] = took;
+        }
+    }
+    for (size_t d = 0; d < desk_count; d++)
+        printf("%s,%s,%s,%zu,%.2f\n", what, mix_names[mix], desks[d].name, count,
+               (double)least[d] / (double)count);
+}
+
+static void time_mix(enum mix mix, size_t count, int rounds) {
+    uint8_t *requests = need(count * REQUEST_BYTES);
+    uint8_t *expected = need(count * REPLY_BYTES), *replies = need(count * REPLY_BYTES);
+    traffic_make(mix, SEED, requests, count);
+    serve_all(&desks[0], requests, count, expected);
+    tell_mix(mix, expected, count);
+    compare(mix, requests, count, expected, replies);
+    if (desk_named("bdb"))
+        printf("calls,%s,bdb,%zu,%" PRIu64 "\n", mix_names[mix], count, desks_bdb_calls());
+    time_desks("time", mix, requests, count, replies, rounds);
+    free(requests);
+    free(expected);
+    free(replies);
+}
+
+// The cost per request must not grow with the number of requests served in one run.
+static void growth(size_t most, int rounds) {
+    uint8_t *requests = need(most * REQUEST_BYTES), *replies = need(most * REPLY_BYTES);
+    traffic_make(DONE_HEAVY, SEED, requests, most);
+    for (size_t count = 10000; count <= most; count *= 10)
+        // Short runs are repeated more often, so that each size gets a fair minimum.
+        time_desks("growth", DONE_HEAVY, requests, count, replies,
+                   count < 1000000 ? 10 * rounds : rounds);
+    free(requests);
+    free(replies);
+}
+
+// Traffic on standard output, for `once`.
+static void make(enum mix mix, size_t count) {
+    uint8_t *requests = need(count * REQUEST_BYTES);
+    traffic_make(mix, SEED, requests, count);
+    if (fwrite(requests, REQUEST_BYTES, count, stdout) != count) exit(2);
+    free(requests);
+}
+
+// One desk on the traffic of standard input, for the counting of instructions.
+static void once(const struct desk *desk, size_t count, int times) {
+    uint8_t *requests = need(count * REQUEST_BYTES), *replies = need(count * REPLY_BYTES);
+    if (fread(requests, REQUEST_BYTES, count, stdin) != count) exit(2);
+    for (int t = 0; t < times; t++) serve_all(desk, requests, count, replies);
+    free(requests);
+    free(replies);
+}
+
+static int usage(void) {
+    fprintf(stderr, "usage: bench desks\n"
+                    "       bench time REQUESTS ROUNDS\n"
+                    "       bench growth MOST ROUNDS\n"
+                    "       bench make MIX REQUESTS\n"
+                    "       bench once DESK REQUESTS TIMES\n");
+    return 2;
+}
+
+static size_t number(const char *word) { return strtoul(word, NULL, 10); }
+
+static int act(int words, char **word) {
+    const char *mode = words > 0 ? word[0] : "";
+    if (strcmp(mode, "desks") == 0 && words == 1) {
+        for (size_t d = 0; d < desk_count; d++) puts(desks[d].name);
+    } else if (strcmp(mode, "time") == 0 && words == 3) {
+        for (int mix = 0; mix < MIXES; mix++)
+            time_mix((enum mix)mix, number(word[1]), (int)number(word[2]));
+    } else if (strcmp(mode, "growth") == 0 && words == 3) {
+        growth(number(word[1]), (int)number(word[2]));
+    } else if (strcmp(mode, "make") == 0 && words == 3) {
+        int mix = 0;
+        while (mix < MIXES && strcmp(mix_names[mix], word[1]) != 0) mix++;
+        if (mix == MIXES) return usage();
+        make((enum mix)mix, number(word[2]));
+    } else if (strcmp(mode, "once") == 0 && words == 4 && desk_named(word[1])) {
+        once(desk_named(word[1]), number(word[2]), (int)number(word[3]));
+    } else {
+        return usage();
+    }
+    return 0;
+}
+
+int main(int argc, char **argv) {
+    if (desk_count > MOST_DESKS || !desks_start()) return 2;
+    int status = act(argc - 1, argv + 1);
+    desks_stop();
+    return status;
+}

@@ -1,0 +1,160 @@
+// The plain C desk, written from document 01 without tuning: structs, early exits, cells by item.
+#include "plain.h"
+
+#include <string.h>
+
+enum { NOBODY = -1 };
+
+int plain_open(struct plain_house *h, const uint8_t *levels, size_t n) {
+    memset(h, 0, sizeof *h);
+    for (int l = 0; l < LEVELS; l++) h->next_ticket[l] = 1;
+    int refusal = misopened(levels, n);
+    if (refusal) return refusal;
+    h->count = n;
+    for (size_t i = 0; i < n; i++) h->items[i].level = levels[i];
+    return 0;
+}
+
+static int find(const struct plain_house *h, int level, uint32_t ticket) {
+    int first = level * PLACES_PER_LEVEL;
+    for (int p = first; p < first + PLACES_PER_LEVEL; p++)
+        if (h->places[p].standing != FREE && h->places[p].ticket == ticket) return p;
+    return NOBODY;
+}
+
+bool plain_is_signalled(const struct plain_house *h, int me) {
+    for (size_t i = 0; i < h->count; i++)
+        if (h->cells[i][me] & IS_SIGNALLED) return true;
+    return false;
+}
+
+// Whether another transaction holds one of these locks on the item.
+static bool other_holds(const struct plain_house *h, size_t item, int me, int locks) {
+    for (int p = 0; p < PLACES; p++)
+        if (p != me && (h->cells[item][p] & locks)) return true;
+    return false;
+}
+
+static int begin(struct plain_house *h, const struct request *q, struct reply *a) {
+    int first = q->level * PLACES_PER_LEVEL, p = first;
+    while (p < first + PLACES_PER_LEVEL && h->places[p].standing != FREE) p++;
+    if (p == first + PLACES_PER_LEVEL) return PLACES_TAKEN;
+    uint32_t ticket = h->next_ticket[q->level];
+    if (ticket == 0) return TICKETS_SPENT;
+    h->next_ticket[q->level] = ticket + 1;   // after the last ticket 0 again: none
+    h->places[p] = (struct plain_place){.ticket = ticket, .standing = ACTIVE};
+    a->ticket = ticket;
+    return DONE;
+}
+
+static int read_item(struct plain_house *h, const struct request *q, int me, struct reply *a) {
+    if (q->item >= h->count) return NO_ITEM;
+    struct plain_item *item = &h->items[q->item];
+    if (item->level > q->level) return WRONG_LEVEL;
+    if (plain_is_signalled(h, me)) return SIGNALLED;
+    if (h->places[me].standing != ACTIVE) return WRONG_TIME;
+    if (other_holds(h, q->item, me, CERTIFIES)) return DELAYED;
+    uint8_t *cell = &h->cells[q->item][me];
+    *cell |= READS;
+    if (*cell & WRITES) {
+        a->value = item->pending;
+        a->version = item->version + 1;
+    } else {
+        a->value = item->value;
+        a->version = item->version;
+    }
+    return DONE;
+}
+
+static int write_item(struct plain_house *h, const struct request *q, int me) {
+    if (q->item >= h->count) return NO_ITEM;
+    struct plain_item *item = &h->items[q->item];
+    if (item->level != q->level) return WRONG_LEVEL;
+    if (plain_is_signalled(h, me)) return SIGNALLED;
+    if (h->places[me].standing != ACTIVE) return WRONG_TIME;
+    if (item->version == UINT32_MAX) return VERSIONS_SPENT;
+    if (other_holds(h, q->item, me, WRITES | CERTIFIES)) return DELAYED;
+    h->cells[q->item][me] |= WRITES;
+    item->pending = q->value;
+    return DONE;
+}
+
+static int certify(struct plain_house *h, const struct request *q, int me) {
+    if (plain_is_signalled(h, me)) return SIGNALLED;
+    if (h->places[me].standing != ACTIVE) return WRONG_TIME;
+    int first = q->level * PLACES_PER_LEVEL, above = first + PLACES_PER_LEVEL;
+    for (size_t i = 0; i < h->count; i++) {
+        if (!(h->cells[i][me] & WRITES)) continue;
+        for (int p = first; p < above; p++)
+            if (p != me && (h->cells[i][p] & READS)) return DELAYED;
+    }
+    for (size_t i = 0; i < h->count; i++) {
+        if (!(h->cells[i][me] & WRITES)) continue;
+        h->cells[i][me] ^= WRITES | CERTIFIES;
+        for (int p = above; p < PLACES; p++)
+            if (h->cells[i][p] & READS) h->cells[i][p] |= IS_SIGNALLED;
+    }
+    h->places[me].standing = CERTIFIED;
+    return DONE;
+}
+
+// Pending values go, cells are cleared, the place is free; `keep` says that the values stay.
+static void end(struct plain_house *h, int me, bool keep) {
+    for (size_t i = 0; i < h->count; i++) {
+        if (h->cells[i][me] & (WRITES | CERTIFIES)) {
+            struct plain_item *item = &h->items[i];
+            if (keep) {
+                item->value = item->pending;
+                item->version++;
+            }
+            item->pending = 0;
+        }
+        h->cells[i][me] = 0;
+    }
+    h->places[me] = (struct plain_place){.ticket = 0, .standing = FREE};
+}
+
+static int commit(struct plain_house *h, int me) {
+    if (plain_is_signalled(h, me)) return SIGNALLED;
+    if (h->places[me].standing != CERTIFIED) return WRONG_TIME;
+    end(h, me, true);
+    return DONE;
+}
+
+static int ask(const struct plain_house *h, int me, struct reply *a) {
+    for (size_t i = h->count; i-- > 0;) {
+        if (h->cells[i][me] & IS_SIGNALLED) {
+            a->item = (uint16_t)i;
+            a->value++;
+        }
+    }
+    return DONE;
+}
+
+static int serve(struct plain_house *h, const struct request *q, struct reply *a) {
+    int refusal = misshapen(q);
+    if (refusal) return refusal;
+    if (q->operation == BEGIN) return begin(h, q, a);
+    int me = find(h, q->level, q->ticket);
+    if (me == NOBODY) return NO_TRANSACTION;
+    switch (q->operation) {
+    case READ: return read_item(h, q, me, a);
+    case WRITE: return write_item(h, q, me);
+    case CERTIFY: return certify(h, q, me);
+    case COMMIT: return commit(h, me);
+    case ABORT: end(h, me, false); return DONE;
+    default: return ask(h, me, a);
+    }
+}
+
+size_t plain_turn(struct plain_house *h, const uint8_t *requests, size_t requests_len,
+                  uint8_t *replies, size_t replies_len, size_t most) {
+    size_t count = turn_length(requests_len, replies_len, most);
+    for (size_t k = 0; k < count; k++) {
+        struct request q = request_from(requests + k * REQUEST_BYTES);
+        struct reply a = repeating(&q);
+        a.number = (uint8_t)serve(h, &q, &a);
+        reply_to(replies + k * REPLY_BYTES, a);
+    }
+    return count;
+}

@@ -1,0 +1,83 @@
+# The table in Markdown, from the raw figures.
+BEGIN {
+    FS = ","
+    words["plain"] = "plain C"; words["tuned"] = "tuned C"; words["turn"] = "**proved `turn`**"
+    words["step"] = "**proved `step`**"; words["bdb"] = "Berkeley DB's lock table"
+    split("refused done pressed", mixes, " ")
+    heads["refused"] = "refused-heavy"; heads["done"] = "done-heavy"; heads["pressed"] = "pressed"
+    split("begin read write certify commit abort ask", operations, " ")
+    meaning[0] = "done"; meaning[1] = "delayed"; meaning[2] = "signalled"; meaning[3] = "no such operation"
+    meaning[4] = "no such level"; meaning[5] = "an unused field is not zero"; meaning[6] = "no such transaction"
+    meaning[7] = "no such item"; meaning[8] = "wrong level"; meaning[9] = "wrong time"; meaning[10] = "versions spent"
+    meaning[11] = "all places taken"; meaning[12] = "no ticket left"
+}
+$1 == "meta" { value = $5; for (k = 6; k <= NF; k++) value = value "," $k; meta[$3] = value }
+$1 == "time" || $1 == "x86_64" { if (!($3 in seen)) { seen[$3] = 1; desks[++n] = $3 } }
+$1 == "time" { time[$2, $3] = $5; size = $4 }
+$1 == "instructions" { instructions[$2, $3] = $5; counted = $4 }
+$1 == "x86_64" { foreign[$2, $3] = $5; few = $4 }
+$1 == "growth" { growth[$3, $4] = $5; if (!($4 in sized)) { sized[$4] = 1; sizes[++g] = $4 } }
+$1 == "calls" { calls[$2] = $5 / $4 }
+$1 == "mix" { total[$2] += $5; of_number[$2, $4] += $5; of_both[$2, $3, $4] += $5 }
+
+function row(first, cells) { print "| " first " |" cells }
+function head(first,    m, line, rule) {
+    for (m = 1; m <= 3; m++) { line = line " " heads[mixes[m]] " |"; rule = rule "---|" }
+    row(first, line); print "|---|" rule
+}
+function shared(count, mix) { return count ? sprintf(" %.1f |", 100 * count / total[mix]) : " |" }
+function figures(what, figure,    d, m, line, mix, desk) {
+    head(what)
+    for (d = 1; d <= n; d++) {
+        desk = desks[d]; line = ""
+        if (!((mixes[1], desk) in figure)) continue
+        for (m = 1; m <= 3; m++) {
+            mix = mixes[m]
+            line = line sprintf(" %.1f (%.2f; %.2f) |", figure[mix, desk], figure[mix, desk] / figure[mix, "plain"], figure[mix, desk] / figure[mix, "tuned"])
+        }
+        row(words[desk], line)
+    }
+    print ""
+}
+END {
+    if (meta["note"] != "") print "_" meta["note"] ": these times were not taken on a quiet machine and settle nothing._\n"
+    figures("ns per request (ratio to plain C; to tuned C)", time)
+    if (counted) figures("instructions per request (ratio to plain C; to tuned C)", instructions)
+    if (few) figures("x86-64 instructions per request (ratio to plain C; to tuned C)", foreign)
+
+    head("the mix met: reply, share in percent")
+    for (k = 0; k <= 12; k++) {
+        line = ""; met = 0
+        for (m = 1; m <= 3; m++) { met += of_number[mixes[m], k]; line = line shared(of_number[mixes[m], k], mixes[m]) }
+        if (met) row(k " " meaning[k], line)
+        for (o = 0; met && k < 2 && o < 7; o++) {
+            line = ""; met_here = 0
+            for (m = 1; m <= 3; m++) { c = of_both[mixes[m], o, k]; met_here += c; line = line shared(c, mixes[m]) }
+            if (met_here) row("&emsp;" operations[o + 1], line)
+        }
+    }
+    if ("done" in calls) {
+        line = ""
+        for (m = 1; m <= 3; m++) line = line sprintf(" %.2f |", calls[mixes[m]])
+        row("calls of Berkeley DB per request", line)
+    }
+    print ""
+
+    line = ""; rule = ""
+    for (k = 1; k <= g; k++) { line = line " " sprintf("%d", sizes[k]) " |"; rule = rule "---|" }
+    row("ns per request by requests served in one run, done-heavy", line); print "|---|" rule
+    for (d = 1; d <= n; d++) {
+        line = ""
+        if (!((desks[d], sizes[1]) in growth)) continue
+        for (k = 1; k <= g; k++) line = line sprintf(" %.1f |", growth[desks[d], sizes[k]])
+        row(words[desks[d]], line)
+    }
+    print ""
+
+    print "Measured on " meta["date"] " (" meta["machine"] "), " size " requests of each traffic over " meta["items"] " items, least of " meta["rounds"] " rounds over all desks in turn; replies of all desks compared byte for byte first."
+    print "Plain C by " meta["plain by"] "; tuned C by " meta["tuned by"] ("bdb" in meta ? "; " meta["bdb"] : "; Berkeley DB was not to be had, so its row is missing") "; kit " meta["kit"] "."
+    if (counted) print "Instructions: callgrind, " counted " requests."
+    if (meta["proved"] == "") print "The proved desk is not in this table: its library was not there or not usable."
+    if (meta["proved"] == "retargeted") print "The kit's static library is for x86-64. The proved desk's times and callgrind's counts here are of the same LLVM module, compiled for this machine by the kit's clang at -O3; they are not of the archive itself."
+    if (few) print "The x86-64 instructions are of the archive itself and of the C desks built for x86-64, " few " requests, counted under the kit's emulator."
+}
