@@ -7,6 +7,7 @@ ghost use lib.ListN.{length};
 ghost use lib.Seq.{paste};
 ghost use Rattle.wire.specs.Wire.{requestAt, replyBytes};
 ghost use Rattle.turn.specs.Turn.{turned, answered};
+use desk::step;
 use house::House;
 use house::Reply;
 use house::Request;
@@ -80,6 +81,25 @@ pub fn turn(h: House, requests: &[u8], replies: &mut [u8], most: usize) -> Serve
         if let Change::Nothing = change {} else {
             h = perform(h, change);
         }
+        n += 1;
+    }
+    Served { house: h, count }
+}
+
+// The same turn with one step by value for each request: what a caller gets who steps, a copy of the house each time.
+pub fn turn_by_steps(h: House, requests: &[u8], replies: &mut [u8], most: usize) -> Served
+    ensures { λ r. ⌜ (r ≡ turned h (now (requests .entry)) (now (replies .entry)) most)
+        × (now (replies .exit) ≡ answered h (now (requests .entry)) (now (replies .entry)) most) ⌝ }
+{
+    let count = least(most, least(requests.len() / 12, replies.len() / 16));
+    let mut h = h;
+    let mut n = 0;
+    while n < count {
+        let q = request_at(requests, n * 12);
+        let stepped = step(h, q);
+        let reply = stepped.reply;
+        put_reply(replies, n * 16, reply);
+        h = stepped.house;
         n += 1;
     }
     Served { house: h, count }
