@@ -11,9 +11,14 @@
 enum { FREE, ACTIVE, CERTIFIED };
 enum { NOBODY = -1 };
 
-// Numbers of modes that Berkeley DB gives no meaning of its own beyond the matrix (3 and 7 have one).
-enum { MODE_READ = DB_LOCK_READ, MODE_WRITE = DB_LOCK_WRITE, MODE_SIGNAL = DB_LOCK_IREAD,
-       MODE_CERTIFY = DB_LOCK_IWR, MODES = DB_LOCK_WWRITE + 1 };
+// Modes by numbers that mean no more to Berkeley DB than the matrix says; 3 and 7 would.
+enum {
+    MODE_READ = DB_LOCK_READ,
+    MODE_WRITE = DB_LOCK_WRITE,
+    MODE_SIGNAL = DB_LOCK_IREAD,
+    MODE_CERTIFY = DB_LOCK_IWR,
+    MODES = DB_LOCK_WWRITE + 1
+};
 
 struct place {
     uint32_t ticket;
@@ -179,7 +184,7 @@ static int certify(const struct request *q, struct place *me) {
         n++;
     }
     if (n > 0) {
-        calls += 2;
+        calls++;
         int status = env->lock_vec(env, me->locker, DB_LOCK_NOWAIT, asked, n, &failed);
         bool granted = status == 0;
         if (!granted && status != DB_LOCK_NOTGRANTED) must(status, "lock_vec");
@@ -188,8 +193,10 @@ static int certify(const struct request *q, struct place *me) {
             asked[k].op = DB_LOCK_PUT;
             if (granted) asked[k].lock = me->written[numbers[k]];
         }
-        if (got > 0) must(env->lock_vec(env, me->locker, 0, asked, got, NULL), "lock_vec");
-        else calls--;
+        if (got > 0) {
+            calls++;
+            must(env->lock_vec(env, me->locker, 0, asked, got, NULL), "lock_vec");
+        }
         if (!granted) return DELAYED;
     }
     for (int p = (q->level + 1) * PLACES_PER_LEVEL; p < PLACES; p++)

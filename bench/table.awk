@@ -76,6 +76,7 @@ END {
 
     print "Measured on " meta["date"] " (" meta["machine"] "), " size " requests of each traffic over " meta["items"] " items, least of " meta["rounds"] " rounds over all desks in turn; replies of all desks compared byte for byte first."
     print "Plain C by " meta["plain by"] "; tuned C by " meta["tuned by"] ("bdb" in meta ? "; " meta["bdb"] : "; Berkeley DB was not to be had, so its row is missing") "; kit " meta["kit"] "."
+    print "Load of the machine before and after: " meta["load before"] " and " meta["load after"] "; this program alone makes 1.0."
     if (counted) print "Instructions: callgrind, " counted " requests."
     if (meta["proved"] == "") print "The proved desk is not in this table: its library was not there or not usable."
     if (meta["proved"] == "retargeted") print "The kit's static library is for x86-64. The proved desk's times and callgrind's counts here are of the same LLVM module, compiled for this machine by the kit's clang at -O3; they are not of the archive itself."

@@ -47,7 +47,9 @@ static uint64_t draw(struct maker *m) {
     return z ^ z >> 31;
 }
 
-static unsigned below(struct maker *m, unsigned bound) { return (unsigned)((draw(m) >> 32) % bound); }
+static unsigned below(struct maker *m, unsigned bound) {
+    return (unsigned)((draw(m) >> 32) % bound);
+}
 
 // An item of this level: they lie four apart.
 static uint16_t item_at(struct maker *m, unsigned level) {

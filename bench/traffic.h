@@ -1,4 +1,4 @@
-// Traffic: requests made against a plain desk, so that their tickets are those of real transactions.
+// Requests made against a plain desk, so that their tickets are those of real transactions.
 #ifndef TRAFFIC_H
 #define TRAFFIC_H
 
