@@ -206,7 +206,7 @@ fn judge_commit(cells: &[u8; 2048], committer: usize, s: Standing) -> Ruling
     if is_active(s) {
         return refuse(9);
     }
-    allow(Answer::Done, Change::Commit(committer))
+    allow(Answer::Done, Change::End(committer, true))
 }
 
 // Past the checks 3, 4, 5 and 6: the request of the transaction at place me, whose standing is s.
@@ -227,7 +227,7 @@ fn judge_known(
         2 => judge_write(count, x, cells, q, me, s),
         3 => judge_certify(cells, me, s),
         4 => judge_commit(cells, me, s),
-        5 => allow(Answer::Done, Change::Abort(me)),
+        5 => allow(Answer::Done, Change::End(me, false)),
         _ => allow(answer_ask(cells, me), Change::Nothing),
     }
 }

@@ -25,7 +25,7 @@ use Rattle.house.proofs.Tests.{is, same, and-true, or-false, or-right}
 use Rattle.house.proofs.Checks.{numbered}
 use Rattle.house.proofs.Searches.{find-at}
 use Rattle.house.specs.declared.Answer.the-variants.{Done, Ticket}
-use Rattle.ruling.specs.declared.Change.the-variants.{Nothing, Begin, Abort}
+use Rattle.ruling.specs.declared.Change.the-variants.{Nothing, Begin, End}
 use Rattle.ruling.specs.declared.Ruling.{Ruling}
 use Rattle.ruling.specs.Ruling.{refusal, grant, granted, ruled}
 use Rattle.ruling.specs.Judged.{Shown, Judged, moved, beginRuled, readRuled, writeRuled, certifyRuled, commitRuled, knownRuled}
@@ -138,7 +138,7 @@ module _ (h : House) (q : Request) where
       unfolding checks unknown noItem forbidden stopped untimely wornOut crowded ticketless delayed conflict granted commitRuled
       commit-ruled o = ruled-chain h q ∙ simp (f .operation, f .level, f .unused, found, told 4 o 0, told 4 o 1, told 4 o 2, told 4 o 3, told 4 o 4, told 4 o 5)
 
-      abort-ruled : q .operation ≡ 5 → ruled h q ≡ grant Done (Abort me)
+      abort-ruled : q .operation ≡ 5 → ruled h q ≡ grant Done (End me false)
       unfolding checks unknown noItem forbidden stopped untimely wornOut crowded ticketless delayed conflict granted
       abort-ruled o = ruled-chain h q ∙ simp (f .operation, f .level, f .unused, found, told 5 o 0, told 5 o 1, told 5 o 2, told 5 o 3, told 5 o 4, told 5 o 5)
 

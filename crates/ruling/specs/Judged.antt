@@ -2,7 +2,7 @@
 -- Assumes nothing.
 use Prim.Native.Nat.{ℕ, _+_, _*_, _<_}
 use mathlib.Core.Path.{_≡_}
-use mathlib.Core.Bool.{not, cond, _||_}
+use mathlib.Core.Bool.{true, false, not, cond, _||_}
 use mathlib.Core.List.{List}
 use lib.Dec.{eqb, leb}
 use Rattle.house.specs.declared.Answer.the-variants.{Done, Ticket}
@@ -76,7 +76,7 @@ unfoldable pub commitRuled : List ℕ → ℕ → Standing → Ruling
 commitRuled cells me s =
     cond (isSignalled cells me) (refusal 2)
     (cond (isActive s) (refusal 9)
-    (grant Done (Change.Commit me)))
+    (grant Done (Change.End me true)))
 
 unfoldable pub knownRuled : ℕ → Item → List ℕ → Request → ℕ → Standing → Ruling
 knownRuled count x cells q me s =
@@ -84,5 +84,5 @@ knownRuled count x cells q me s =
     (cond (q does write) (writeRuled count x cells q me s)
     (cond (q does certify) (certifyRuled cells me s)
     (cond (q does commit) (commitRuled cells me s)
-    (cond (q does abort) (grant Done (Change.Abort me))
+    (cond (q does abort) (grant Done (Change.End me false))
     (grant (askAnswer cells me) Change.Nothing)))))

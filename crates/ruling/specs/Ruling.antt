@@ -2,18 +2,25 @@
 -- together they are the step of the rules.
 -- Assumes nothing.
 use Prim.Native.Nat.{ℕ}
-use mathlib.Core.Bool.{Bool, true, cond, _&&_}
+use mathlib.Core.Bool.{Bool, true, false, cond, _&&_}
+use mathlib.Core.List.{List}
 use lib.Dec.{eqb, ltb}
 use Rattle.house.specs.declared.Answer.{Answer}
 use Rattle.house.specs.declared.Answer.the-variants.{Refused, Done, Ticket}
 use Rattle.house.specs.declared.House.{House}
+use Rattle.house.specs.declared.Item.{Item}
 use Rattle.house.specs.declared.Request.{Request}
 use Rattle.house.specs.Search.{ifFound}
 use Rattle.house.specs.House.{itemAt, nextAt, vacancy}
 use Rattle.house.specs.Rules.{begin, read, write, certify, commit, abort, _does_, asker, verdict, begun, readBy, readAnswer, writtenBy, certifiedBy, left, committedItem, abortedItem, askAnswer}
 use Rattle.ruling.specs.declared.Change.{Change}
-use Rattle.ruling.specs.declared.Change.the-variants.{Nothing, Begin, Read, Write, Certify, Commit, Abort}
+use Rattle.ruling.specs.declared.Change.the-variants.{Nothing, Begin, Read, Write, Certify, End}
 use Rattle.ruling.specs.declared.Ruling.{Ruling}
+
+-- the items at the end of a transaction that commits, or aborts
+abbrev pub endedItem : Bool → List ℕ → ℕ → ℕ → Item → Item
+endedItem true = committedItem
+endedItem false = abortedItem
 
 -- the house after a change
 abbrev pub effect : House → Change → House
@@ -22,22 +29,16 @@ effect h (Begin l me) = begun h l me
 effect h (Read me i) = readBy h me i
 effect h (Write me i v) = writtenBy h me i v
 effect h (Certify me) = certifiedBy h me
-effect h (Commit me) = left (committedItem (h .cells) me) h me
-effect h (Abort me) = left (abortedItem (h .cells) me) h me
+effect h (End me commits) = left (endedItem commits (h .cells) me) h me
 
--- the change names a level, a place and an item that a house has
+-- the change names a level, a place and an item that a house has; the judge rules no other (`ruled-fits`)
 abbrev pub fits : Change → Bool
 fits Nothing = true
 fits (Begin l me) = ltb l 4 && ltb me 32
 fits (Read me i) = ltb me 32 && ltb i 64
 fits (Write me i v) = ltb me 32 && ltb i 64
 fits (Certify me) = ltb me 32
-fits (Commit me) = ltb me 32
-fits (Abort me) = ltb me 32
-
--- a change that does not fit leaves the house as it was; the judge rules none
-unfoldable pub changed : House → Change → House
-changed h c = cond (fits c) (effect h c) h
+fits (End me commits) = ltb me 32
 
 abbrev pub refusal : ℕ → Ruling
 refusal n = record { answer = Refused n; change = Nothing }
@@ -54,8 +55,8 @@ granted h q =
     cond (q does read) (grant (readAnswer (h .cells) (itemAt (h .items) (q .item)) me (q .item)) (Read me (q .item)))
     (cond (q does write) (grant Done (Write me (q .item) (q .value)))
     (cond (q does certify) (grant Done (Certify me))
-    (cond (q does commit) (grant Done (Commit me))
-    (cond (q does abort) (grant Done (Abort me))
+    (cond (q does commit) (grant Done (End me true))
+    (cond (q does abort) (grant Done (End me false))
     (grant (askAnswer (h .cells) me) Nothing))))))
     (refusal 6))
 

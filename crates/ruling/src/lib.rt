@@ -14,8 +14,8 @@ pub enum Change {
     Write(usize, usize, u32),
     // the place
     Certify(usize),
-    Commit(usize),
-    Abort(usize),
+    // the place, and whether it commits
+    End(usize, bool),
 }
 
 pub struct Ruling {

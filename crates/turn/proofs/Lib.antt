@@ -1,2 +1,2 @@
+pub mod Rounds
 pub mod Laws
-pub mod Settled
