@@ -4,20 +4,22 @@ use Prim.Native.Nat.{ℕ, _+_, _*_, _/_, _%_, _<_}
 use native.Mathlib.Omega.{arith}
 use mathlib.Core.Path.{_≡_, refl}
 use mathlib.Core.Logic.{_≢_}
-use mathlib.Core.Bool.{true, false, _&&_}
+use mathlib.Core.Bool.{Bool, true, false, _&&_, _||_}
 use mathlib.Core.List.{List, [], _∷_}
 use lib.ListN.{length, getD}
 use lib.Dec.{ltb}
 use borrow.Author.Tests.{eq-eqb, ne-eqb, ltb-true}
-use Rattle.house.specs.declared.Mark.the-variants.{Write}
+use Rattle.house.specs.declared.Mark.the-variants.{Write, Certify}
 use Rattle.house.specs.declared.House.{House}
+use Rattle.house.specs.declared.Item.{Item}
 use Rattle.house.specs.declared.Request.{Request}
 use Rattle.house.specs.Run.{finally}
 use Rattle.house.specs.Cell.{has, cellAt, holds, mapCells}
-use Rattle.house.specs.Rules.{certifiedCell, clearedCell, stepped}
-use Rattle.house.proofs.Tests.{and-true}
+use Rattle.house.specs.Rules.{certifiedCell, clearedCell, committedItem, abortedItem, stepped}
+use Rattle.house.proofs.Tests.{and-true, or-false}
 use Rattle.house.proofs.Lists.{Sofar, sofar-skip, sofar-map}
 use Rattle.house.proofs.Cells.{place-of, item-of}
+use Rattle.ruling.specs.Ruling.{endedItem}
 use Rattle.ruling.proofs.Steps.{stepped-cells}
 use Rattle.turn.specs.Sweep.{convertedCell, convertedOn}
 
@@ -73,6 +75,13 @@ module _ (old : List ℕ) (me : ℕ) where
 
     pub passed-item : has Write (getD cells (me * 64 + i) 0) ≡ false → Sofar 0 (λ n. n % 64) certifiedAt (i + 1) old cells
     passed-item w = sofar-skip 0 (λ n. n % 64) certifiedAt i s (λ n h e. unwritten n _ w e)
+
+-- Ending: a row that was not written stays
+
+pub ended-unwritten : (commits : Bool) (cells : List ℕ) (me i : ℕ) (x : Item) → (holds cells Write me i || holds cells Certify me i) ≡ false → endedItem commits cells me i x ≡ x
+unfolding committedItem abortedItem
+ended-unwritten true cells me i x e = rw (or-false (holds cells Write me i) (holds cells Certify me i) e .1)
+ended-unwritten false cells me i x e = rw e
 
 -- The house of a turn keeps its cells as many as they were
 pub finally-cells : (h : House) → length (h .cells) ≡ 2048 → (qs : List Request) → length (finally h qs .cells) ≡ 2048

@@ -6,7 +6,7 @@ ghost use Prim.Native.Nat.{_<_};
 ghost use lib.ListN.{length, getD};
 ghost use Rattle.house.specs.declared.Mark.the-variants.{Write, Certify};
 ghost use Rattle.house.specs.Search.{mapFrom};
-ghost use Rattle.house.specs.Cell.{has, withMark, mapCells};
+ghost use Rattle.house.specs.Cell.{has, withMark, mapCells, holds};
 ghost use Rattle.house.specs.House.{above, levelOf, withPending};
 ghost use Rattle.house.specs.Rules.{certifiedCell, clearedCell, grown};
 ghost use Rattle.turn.specs.Sweep.{convertedCell, convertedOn};
@@ -126,6 +126,15 @@ fn end_item(cells: &[u8; 2048], me: usize, commits: bool, i: usize, x: Item) -> 
     }
 }
 
+fn has_written(cells: &[u8; 2048], me: usize, i: usize) -> bool
+    requires { ⌜ (me < 32) × (i < 64) ⌝ }
+    ensures { λ r. ⌜ r ≡ (holds (now (cells .entry)) Write me i || holds (now (cells .entry)) Certify me i) ⌝ }
+{
+    let c = cells[me * 64 + i];
+    has_mark(Mark::Write, c) | has_mark(Mark::Certify, c)
+}
+
+// Most rows stay: only a written one is stored.
 pub(crate) fn end_items(
     items: [Item; 64],
     cells: &[u8; 2048],
@@ -137,8 +146,10 @@ pub(crate) fn end_items(
 {
     let mut out = items;
     for i in 0..64 {
-        let x = out[i];
-        out[i] = end_item(cells, me, commits, i, x);
+        if has_written(cells, me, i) {
+            let x = out[i];
+            out[i] = end_item(cells, me, commits, i, x);
+        }
     }
     out
 }
