@@ -70,10 +70,9 @@ fn with_pending(x: Item, value: u32) -> Item
     }
 }
 
-pub fn step(h: House, q: Request) -> Outcome
+pub fn step(mut h: House, q: Request) -> Outcome
     ensures { λ r. ⌜ r ≡ stepped h q ⌝ }
 {
-    let mut h = h;
     let level = (q.level % 4) as usize;
     let ticket = h.next[level];
     let item = (q.item % 64) as usize;

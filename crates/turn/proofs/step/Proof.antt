@@ -15,19 +15,19 @@ use Rattle.turn.proofs.step.Statement.{statement}
 use Rattle.turn.proofs.step.Tie as tie
 
 -- the cells are as many as their array has
-long : (c : tie.Start) → length (c .args .h .cells) ≡ 2048
+long : (c : tie.Start) → length (c .args .t1 .cells) ≡ 2048
 long c = search needs
 
 -- the judge was shown this house
-ruling : (c : tie.After-judge) → ruled (c .before .before .before .before .before .before .before .before .before .before .before .before .before .before .before .args .h) (c .before .before .before .before .before .before .before .before .before .before .before .before .before .before .before .args .q) ≡ c .judge .result
+ruling : (c : tie.After-judge) → ruled (c .before .before .before .before .before .before .before .before .before .before .before .before .before .before .before .args .t1) (c .before .before .before .before .before .before .before .before .before .before .before .before .before .before .before .args .q) ≡ c .judge .result
 unfolding Judged
-ruling c = sym (c .judge .ensures _ _ _ (shows (c .before .before .before .before .before .before .before .before .before .before .before .before .before .before .before .args .h .items) (c .before .before .before .before .before .before .before .before .before .before .before .before .before .before .before .args .h .places) (c .before .before .before .before .before .before .before .before .before .before .before .before .before .before .before .args .h .next) (c .before .before .before .before .before .before .before .before .before .before .before .before .before .before .before .args .q)))
+ruling c = sym (c .judge .ensures _ _ _ (shows (c .before .before .before .before .before .before .before .before .before .before .before .before .before .before .before .args .t1 .items) (c .before .before .before .before .before .before .before .before .before .before .before .before .before .before .before .args .t1 .places) (c .before .before .before .before .before .before .before .before .before .before .before .before .before .before .before .args .t1 .next) (c .before .before .before .before .before .before .before .before .before .before .before .before .before .before .before .args .q)))
 
 fit : (c : tie.After-judge) → fits (c .judge .result .change) ≡ true
-fit c = rw (ruling c) at (ruled-fits (c .before .before .before .before .before .before .before .before .before .before .before .before .before .before .before .args .h) (c .before .before .before .before .before .before .before .before .before .before .before .before .before .before .before .args .q))
+fit c = rw (ruling c) at (ruled-fits (c .before .before .before .before .before .before .before .before .before .before .before .before .before .before .before .args .t1) (c .before .before .before .before .before .before .before .before .before .before .before .before .before .before .before .args .q))
 
 -- so the step is its reply, with the effect of its change
-stepping : (c : tie.After-reply-to) → stepped (c .before .before .before .before .before .before .before .before .before .before .before .before .before .before .before .before .args .h) (c .before .before .before .before .before .before .before .before .before .before .before .before .before .before .before .before .args .q) ≡ record { house = effect (c .before .before .before .before .before .before .before .before .before .before .before .before .before .before .before .before .args .h) (c .before .judge .result .change); reply = c .reply-to .result }
+stepping : (c : tie.After-reply-to) → stepped (c .before .before .before .before .before .before .before .before .before .before .before .before .before .before .before .before .args .t1) (c .before .before .before .before .before .before .before .before .before .before .before .before .before .before .before .before .args .q) ≡ record { house = effect (c .before .before .before .before .before .before .before .before .before .before .before .before .before .before .before .before .args .t1) (c .before .judge .result .change); reply = c .reply-to .result }
 stepping c = rw (ruled-steps, ruling (c .before), c .reply-to .ensures)
 
 -- what the change names is there

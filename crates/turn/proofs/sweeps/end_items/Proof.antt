@@ -3,17 +3,13 @@ use native.Mathlib.Omega.{arith}
 use mathlib.Core.Logic.{⊎-elim}
 use mathlib.Core.Path.{_≡_, refl, sym, _∙_}
 use lib.ListN.{length}
-use Rattle.house.specs.House.{blank}
+use borrow.Author.Needs.{needs}
 use Rattle.house.proofs.Lists.{Sofar, sofar-none, sofar-set, sofar-skip, sofar-all}
+use Rattle.house.specs.House.{blank}
 use Rattle.ruling.specs.Ruling.{endedItem}
 use Rattle.turn.proofs.Rounds.{ended-unwritten}
-use borrow.Author.Needs.{needs}
 use Rattle.turn.proofs.sweeps.end_items.Statement.{statement}
 use Rattle.turn.proofs.sweeps.end_items.Tie as tie
-use Rattle.turn.proofs.sweeps.end_items.Reads as reads
-use Rattle.turn.proofs.sweeps.end_items.Lts as lts
-use Rattle.turn.proofs.sweeps.end_item.Reads as end-item-reads
-use Rattle.turn.proofs.sweeps.has_written.Reads as has-written-reads
 
 abbrev Inv-loop : tie.InvT-loop
 Inv-loop cells me commits out₀ i₀ out i = Sofar blank (λ n. n) (endedItem commits cells me) i out₀ out
@@ -21,43 +17,33 @@ Inv-loop cells me commits out₀ i₀ out i = Sofar blank (λ n. n) (endedItem c
 abbrev μ-loop : tie.MeasureT-loop
 μ-loop cells me commits out₀ i₀ out i = 64 - i
 
--- src/sweeps.rt:148:5
 loop-holds : tie.Need-loop-holds Inv-loop μ-loop
 loop-holds c = sofar-none _ _ _ _
 
--- src/sweeps.rt:149:12
 has-written-requires : tie.Need-has-written-requires Inv-loop μ-loop
 has-written-requires c κs = search needs
 
--- src/sweeps.rt:150:21
 mul-x : tie.Need-mul-x Inv-loop μ-loop
 mul-x c = search needs
 
--- src/sweeps.rt:150:21
 array-copy-out-x : tie.Need-array-copy-out-x Inv-loop μ-loop
 array-copy-out-x c = search needs
 
--- src/sweeps.rt:151:22
 end-item-requires : tie.Need-end-item-requires Inv-loop μ-loop
 end-item-requires c κs = search needs
 
--- src/sweeps.rt:151:13
 mul-out : tie.Need-mul-out Inv-loop μ-loop
 mul-out c = search needs
 
--- src/sweeps.rt:151:13
 array-set-from-out : tie.Need-array-set-from-out Inv-loop μ-loop
 array-set-from-out c = search needs
 
--- src/sweeps.rt:148:9
 add-i : tie.Need-add-i Inv-loop μ-loop
 add-i c = search needs
 
--- src/sweeps.rt:148:5
 loop-less : tie.Need-loop-less Inv-loop μ-loop
 loop-less c = search needs
 
--- src/sweeps.rt:148:5
 loop-again : tie.Need-loop-again Inv-loop μ-loop
 loop-again c = let s = c .before .before .before .loop .inv in
     let e = sym (c .before .has-written .ensures) in
@@ -66,7 +52,6 @@ loop-again c = let s = c .before .before .before .loop .inv in
     (λ w. rw (w .1) (sofar-skip _ _ _ _ s (λ n h k. rw k (ended-unwritten (c .before .before .before .before .args .commits) _ _ _ _ (e ∙ w .0 .left)))))
     (c .if1 .came)
 
--- src/sweeps.rt:138:1
 returns : tie.Need-returns Inv-loop μ-loop
 returns c = sofar-all _ _ _ _ (c .before .loop .inv) (λ n h. let l : length (c .before .before .args .items) ≡ 64 = search needs in omega arith)
 
