@@ -63,7 +63,7 @@ length-wired h (suc n) b =
     length-append (replyBytes (o .reply)) (wired (replies (o .house) (requests n (drop 12 b))))
     ∙ rw (length-replyBytes (o .reply), length-wired (o .house) n (drop 12 b)) (omega arith)
 
-wired-append : (rs ss : List Reply) → wired (rs ++ ss) ≡ wired rs ++ wired ss
+pub wired-append : (rs ss : List Reply) → wired (rs ++ ss) ≡ wired rs ++ wired ss
 unfolding wired
 wired-append [] ss = refl
 wired-append (r ∷ rs) ss = ap (λ l. replyBytes r ++ l) (wired-append rs ss) ∙ sym (append-assoc (replyBytes r) (wired rs) (wired ss))
