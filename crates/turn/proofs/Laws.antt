@@ -16,7 +16,7 @@ use Rattle.house.specs.Rules.{stepped}
 use Rattle.house.specs.Run.{finally, replies}
 use Rattle.house.proofs.Runs.{finally-append, replies-append}
 use Rattle.wire.specs.Wire.{requestAt, replyBytes}
-use Rattle.turn.specs.Turn.{requests, wired, written, housed}
+use Rattle.turn.specs.Turn.{requests, wired, share, written, housed}
 
 -- one byte more of a copy
 pub copied : (d : List ℕ) (at : ℕ) (s : List ℕ) (j : ℕ) {out : List ℕ} {v : ℕ} → out ≡ paste d at s j → v ≡ getD s j 0 → at + j < length d → j < length s → set out (at + j) v ≡ paste d at s (j + 1)
@@ -88,3 +88,8 @@ module _ (h : House) (input room : List ℕ) (n : ℕ) where
       let e : (n + 1) * 16 ≡ n * 16 + 16 = omega arith in
       rw (so, is)
       (rw (take-at W D (n * 16) long, past, requests-last n input, replies-append h (requests n input) (requestAt input (n * 12) ∷ []), wired-append (replies h (requests n input)) (replies (housed n h input) (requestAt input (n * 12) ∷ [])), e))
+
+-- a turn has the bytes of its requests, and room for its replies
+pub share-fits : (most : ℕ) (input room : List ℕ) → (share most input room * 12 ≤ length input) × (share most input room * 16 ≤ length room)
+unfolding share
+share-fits most input room = (omega arith, omega arith)
