@@ -5,7 +5,7 @@ use native.Mathlib.Nat.{zero-add, add-comm}
 use native.Mathlib.Omega.{arith}
 use mathlib.Core.Path.{_≡_, refl, sym, ap, _∙_}
 use mathlib.Core.List.{List, [], _∷_, _++_}
-use lib.ListN.{length, getD, set, take, drop, length-take, length-drop}
+use lib.ListN.{length, getD, set, take, drop, length-append, length-take, length-drop}
 use lib.Seq.{paste, length-take-le, getD-append-add, getD-drop}
 use Rattle.turn.proofs.Laws.{copied}
 use Rattle.session.specs.Session.{unused, kept}
@@ -36,3 +36,8 @@ module _ (b : List ℕ) (used have : ℕ) where
   pub kept-is : paste b 0 (drop used b) (length (unused used have b)) ≡ kept used have b
   unfolding kept
   kept-is = rw (zero-add (length (unused used have b)), take-taken (have - used) (drop used b))
+
+-- and they are there
+pub kept-within : (used have : ℕ) (b : List ℕ) {r : ℕ} {out : List ℕ} → (r ≡ length (unused used have b)) × (out ≡ kept used have b) → r ≤ length out
+unfolding kept
+kept-within used have b k = rw (k .0, k .1, length-append (unused used have b) (drop (length (unused used have b)) b)) (omega arith)

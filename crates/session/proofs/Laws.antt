@@ -6,14 +6,19 @@ use mathlib.Core.Path.{_≡_, refl, sym, ap, _∙_}
 use mathlib.Core.Logic.{inl, inr}
 use mathlib.Core.Bool.{true, false, cond, _||_}
 use mathlib.Core.List.{List, [], _∷_}
-use lib.ListN.{length, getD}
-use lib.Dec.{ltb}
+use lib.ListN.{length, drop}
+use lib.Dec.{eqb, ltb}
 use borrow.Author.Tests.{ltb-true, ne-eqb}
+use Rattle.house.specs.declared.House.{House}
 use Rattle.house.specs.declared.Opening.{Opening}
 use Rattle.house.specs.Search.{scan}
 use Rattle.house.specs.Opening.{wrongLength, wrongLevel, openVerdict, opening}
 use Rattle.house.proofs.Tests.{is, clash, or-elim}
+use Rattle.turn.specs.Turn.{turned}
+use Rattle.turn.proofs.Laws.{share-fits, length-answered}
+use Rattle.session.specs.declared.Fed.{Fed}
 use Rattle.session.specs.declared.Session.{Session}
+use Rattle.session.specs.declared.Stage.{Stage}
 use Rattle.session.specs.declared.Stage.the-variants.{Waiting, Open, Refused}
 use Rattle.session.specs.Session.{announced, decided, levels, waits, drops, serves, opens, fed}
 
@@ -67,3 +72,26 @@ module _ (s : Session) (b room : List ℕ) where
   pub fed-drops : (n : ℕ) → s .stage ≡ Refused n → fed s b room ≡ drops s b room
   unfolding fed
   fed-drops n e = rw e
+
+-- the replies that were written are there
+
+abbrev pub Within : Fed × List ℕ → Type 0
+Within f = f .0 .written ≤ length (f .1)
+
+serves-within : (h : House) (k : ℕ) (b room : List ℕ) → Within (serves h k b room)
+unfolding serves turned
+serves-within h k b room = rw (length-answered h (drop k b) room (length b)) (share-fits (length b) (drop k b) room .1)
+
+pub fed-within : (stage : Stage) (h : House) (b room : List ℕ) → Within (fed (record { stage = stage; house = h }) b room)
+unfolding fed opens
+fed-within Waiting h b room =
+    elim (is (decided b)) [
+      | inl y ↦ rw y
+          (elim (is (eqb (opening (levels b) .number) 0)) [
+            | inl z ↦ rw z (serves-within (opening (levels b) .house) (announced b + 1) b room)
+            | inr z ↦ rw z (omega arith)
+          ])
+      | inr n ↦ rw n (omega arith)
+    ]
+fed-within Open h b room = serves-within h 0 b room
+fed-within (Refused n) h b room = omega arith

@@ -16,7 +16,7 @@ use Rattle.house.specs.Rules.{stepped}
 use Rattle.house.specs.Run.{finally, replies}
 use Rattle.house.proofs.Runs.{finally-append, replies-append}
 use Rattle.wire.specs.Wire.{requestAt, replyBytes}
-use Rattle.turn.specs.Turn.{requests, wired, share, written, housed}
+use Rattle.turn.specs.Turn.{requests, wired, share, written, housed, answered}
 
 -- one byte more of a copy
 pub copied : (d : List ℕ) (at : ℕ) (s : List ℕ) (j : ℕ) {out : List ℕ} {v : ℕ} → out ≡ paste d at s j → v ≡ getD s j 0 → at + j < length d → j < length s → set out (at + j) v ≡ paste d at s (j + 1)
@@ -93,3 +93,10 @@ module _ (h : House) (input room : List ℕ) (n : ℕ) where
 pub share-fits : (most : ℕ) (input room : List ℕ) → (share most input room * 12 ≤ length input) × (share most input room * 16 ≤ length room)
 unfolding share
 share-fits most input room = (omega arith, omega arith)
+
+pub length-answered : (h : House) (input room : List ℕ) (most : ℕ) → length (answered h input room most) ≡ length room
+unfolding answered
+length-answered h input room most =
+    let n = share most input room in
+    length-append (wired (replies h (requests n input))) (drop (n * 16) room)
+    ∙ rw (length-wired h n input, length-drop (n * 16) room) (omega (arith, share-fits most input room))
