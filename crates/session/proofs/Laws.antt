@@ -1,18 +1,17 @@
 -- Laws of an opening's bytes.
 -- Assumes nothing.
-use Prim.Native.Nat.{ℕ, _+_, _<_, _≤_}
+use Prim.Native.Nat.{ℕ, _+_, _≤_}
 use native.Mathlib.Omega.{arith}
-use mathlib.Core.Path.{_≡_, refl, sym, ap, _∙_}
+use mathlib.Core.Path.{_≡_, sym}
 use mathlib.Core.Logic.{inl, inr}
-use mathlib.Core.Bool.{true, false, cond, _||_}
+use mathlib.Core.Bool.{true, false, cond}
 use mathlib.Core.List.{List, [], _∷_}
 use lib.ListN.{length, drop}
 use lib.Dec.{eqb, ltb}
 use borrow.Author.Tests.{ltb-true, ne-eqb}
 use Rattle.house.specs.declared.House.{House}
 use Rattle.house.specs.declared.Opening.{Opening}
-use Rattle.house.specs.Search.{scan}
-use Rattle.house.specs.Opening.{wrongLength, wrongLevel, openVerdict, opening}
+use Rattle.house.specs.Opening.{wrongLength, openVerdict, opening}
 use Rattle.house.proofs.Tests.{is, clash, or-elim}
 use Rattle.turn.specs.Turn.{turned}
 use Rattle.turn.proofs.Laws.{share-fits, length-answered}
@@ -23,7 +22,7 @@ use Rattle.session.specs.declared.Stage.the-variants.{Waiting, Open, Ref
 use Rattle.session.specs.Session.{announced, decided, levels, waits, drops, serves, opens, fed}
 
 -- a byte that is not 0 is there
-there : (b : List ℕ) → ltb 64 (announced b) ≡ true → 1 ≤ length b
+pub there : (b : List ℕ) → ltb 64 (announced b) ≡ true → 1 ≤ length b
 there [] e = absurd (omega (arith, ltb-true 64 0 e))
 there (x ∷ b) e = omega arith
 

@@ -1,17 +1,16 @@
 -- Laws of a turn: the bytes of a request, and one request more.
 -- Assumes nothing.
-use Prim.Native.Nat.{ℕ, zero, suc, _+_, _-_, _*_, _/_, _<_, _≤_, min}
+use Prim.Native.Nat.{ℕ, zero, suc, _+_, _*_, _<_, _≤_}
 use native.Mathlib.Nat.{add-zero, zero-add, add-assoc}
 use native.Mathlib.Numerals.{add-one}
 use native.Mathlib.Omega.{arith}
-use mathlib.Core.Path.{_≡_, refl, sym, ap, ap₂, _∙_}
+use mathlib.Core.Path.{_≡_, refl, sym, ap, _∙_}
 use mathlib.Core.List.{List, [], _∷_, _++_, append-assoc, append-nil}
-use lib.ListN.{length, getD, set, take, drop, replicate, length-append, length-take, length-drop}
-use lib.Seq.{getD-take, getD-drop, drop-drop, drop-at, take-at, paste, drop-append-add, paste-suc}
+use lib.ListN.{length, getD, set, take, drop, replicate, length-append, length-drop}
+use lib.Seq.{getD-take, getD-drop, drop-drop, take-at, paste, drop-append-add, paste-suc}
 use Rattle.house.specs.declared.House.{House}
 use Rattle.house.specs.declared.Outcome.{Outcome}
 use Rattle.house.specs.declared.Reply.{Reply}
-use Rattle.house.specs.declared.Request.{Request}
 use Rattle.house.specs.Rules.{stepped}
 use Rattle.house.specs.Run.{finally, replies}
 use Rattle.house.proofs.Runs.{finally-append, replies-append}

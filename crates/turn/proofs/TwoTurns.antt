@@ -2,18 +2,16 @@
 -- Assumes nothing.
 use Prim.Native.Nat.{ℕ, zero, suc, _+_, _-_, _*_, _/_, _<_, _≤_, min}
 use native.Mathlib.Omega.{arith}
-use mathlib.Core.Path.{_≡_, refl, sym, ap, ap₂, _∙_}
-use mathlib.Core.List.{List, [], _∷_, _++_, append-assoc}
+use mathlib.Core.Path.{_≡_, refl, sym, ap₂}
+use mathlib.Core.List.{List, _∷_, _++_, append-assoc}
 use lib.ListN.{length, getD, take, drop, length-append, length-drop, List·getD-append}
 use lib.Seq.{take-at, drop-at, drop-drop, drop-append-le}
 use Rattle.house.specs.declared.House.{House}
-use Rattle.house.specs.declared.Request.{Request}
-use Rattle.house.specs.Run.{finally, replies}
+use Rattle.house.specs.Run.{replies}
 use Rattle.house.proofs.Runs.{finally-append, replies-append}
 use Rattle.wire.specs.Wire.{requestAt}
-use Rattle.turn.specs.declared.Served.{Served}
 use Rattle.turn.specs.Turn.{requests, wired, share, housed, written, turned, answered}
-use Rattle.turn.specs.TwoTurns.{then, GoesOn, InParts}
+use Rattle.turn.specs.TwoTurns.{GoesOn, InParts}
 use Rattle.turn.proofs.Laws.{requests-add, length-wired, wired-append}
 
 -- what is left for the second turn
