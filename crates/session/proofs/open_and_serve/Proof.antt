@@ -47,7 +47,7 @@ add-serve : tie.Need-add-serve
 add-serve c = search needs
 
 serve-requires : tie.Need-serve-requires
-serve-requires c κs = let o = c .before .before .before in rw (o .before .before .before .first .ensures .0) (opened-there (o .before .before .before .before .before .before .args .bytes .now) (o .before .before .before .before .before .before .pre) (sym (ap (λ x. x .number) (opened o)) ∙ c .before .if1 .taken))
+serve-requires c κs = let o = c .before .before .before in omega (arith, o .before .before .before .first .ensures .0, opened-there (o .before .before .before .before .before .before .args .bytes .now) (o .before .before .before .before .before .before .pre) (sym (ap (λ x. x .number) (opened o)) ∙ c .before .if1 .taken))
 
 same-length : tie.Need-same-length
 same-length c = search needs
