@@ -1,22 +1,21 @@
 -- Laws of a turn: the bytes of a request, and one request more.
 -- Assumes nothing.
-use Prim.Native.Nat.{ℕ, zero, suc, _+_, _-_, _*_, _/_, _<_, _≤_, min}
+use Prim.Native.Nat.{ℕ, zero, suc, _+_, _*_, _<_, _≤_}
 use native.Mathlib.Nat.{add-zero, zero-add, add-assoc}
 use native.Mathlib.Numerals.{add-one}
 use native.Mathlib.Omega.{arith}
-use mathlib.Core.Path.{_≡_, refl, sym, ap, ap₂, _∙_}
+use mathlib.Core.Path.{_≡_, refl, sym, ap, _∙_}
 use mathlib.Core.List.{List, [], _∷_, _++_, append-assoc, append-nil}
-use lib.ListN.{length, getD, set, take, drop, replicate, length-append, length-take, length-drop}
-use lib.Seq.{getD-take, getD-drop, drop-drop, drop-at, take-at, paste, drop-append-add, paste-suc}
+use lib.ListN.{length, getD, set, take, drop, replicate, length-append, length-drop}
+use lib.Seq.{getD-take, getD-drop, drop-drop, take-at, paste, drop-append-add, paste-suc}
 use Rattle.house.specs.declared.House.{House}
 use Rattle.house.specs.declared.Outcome.{Outcome}
 use Rattle.house.specs.declared.Reply.{Reply}
-use Rattle.house.specs.declared.Request.{Request}
 use Rattle.house.specs.Rules.{stepped}
 use Rattle.house.specs.Run.{finally, replies}
 use Rattle.house.proofs.Runs.{finally-append, replies-append}
 use Rattle.wire.specs.Wire.{requestAt, replyBytes}
-use Rattle.turn.specs.Turn.{requests, wired, written, housed}
+use Rattle.turn.specs.Turn.{requests, wired, share, written, housed, answered}
 
 -- one byte more of a copy
 pub copied : (d : List ℕ) (at : ℕ) (s : List ℕ) (j : ℕ) {out : List ℕ} {v : ℕ} → out ≡ paste d at s j → v ≡ getD s j 0 → at + j < length d → j < length s → set out (at + j) v ≡ paste d at s (j + 1)
@@ -63,7 +62,7 @@ length-wired h (suc n) b =
     length-append (replyBytes (o .reply)) (wired (replies (o .house) (requests n (drop 12 b))))
     ∙ rw (length-replyBytes (o .reply), length-wired (o .house) n (drop 12 b)) (omega arith)
 
-wired-append : (rs ss : List Reply) → wired (rs ++ ss) ≡ wired rs ++ wired ss
+pub wired-append : (rs ss : List Reply) → wired (rs ++ ss) ≡ wired rs ++ wired ss
 unfolding wired
 wired-append [] ss = refl
 wired-append (r ∷ rs) ss = ap (λ l. replyBytes r ++ l) (wired-append rs ss) ∙ sym (append-assoc (replyBytes r) (wired rs) (wired ss))
@@ -88,3 +87,15 @@ module _ (h : House) (input room : List ℕ) (n : ℕ) where
       let e : (n + 1) * 16 ≡ n * 16 + 16 = omega arith in
       rw (so, is)
       (rw (take-at W D (n * 16) long, past, requests-last n input, replies-append h (requests n input) (requestAt input (n * 12) ∷ []), wired-append (replies h (requests n input)) (replies (housed n h input) (requestAt input (n * 12) ∷ [])), e))
+
+-- a turn has the bytes of its requests, and room for its replies
+pub share-fits : (most : ℕ) (input room : List ℕ) → (share most input room * 12 ≤ length input) × (share most input room * 16 ≤ length room)
+unfolding share
+share-fits most input room = (omega arith, omega arith)
+
+pub length-answered : (h : House) (input room : List ℕ) (most : ℕ) → length (answered h input room most) ≡ length room
+unfolding answered
+length-answered h input room most =
+    let n = share most input room in
+    length-append (wired (replies h (requests n input))) (drop (n * 16) room)
+    ∙ rw (length-wired h n input, length-drop (n * 16) room) (omega (arith, share-fits most input room))

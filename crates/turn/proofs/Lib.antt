@@ -1,2 +1,4 @@
 pub mod Rounds
 pub mod Laws
+pub mod TwoTurns
+pub mod Settled

@@ -1,0 +1,4 @@
+pub mod Laws
+pub mod Keeping
+pub mod Settled
+pub mod Pieces
