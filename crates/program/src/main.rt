@@ -43,7 +43,7 @@ fn exchange(s: Session, buffer: &mut [u8], have: usize, replies: &mut [u8]) -> R
     let stage = session.stage;
     let written = fed.written;
     let is_written = io::write_all(STDOUT_FILENO, &replies[..written]);
-    let left = session::keep(buffer, fed.used, end);
+    let left = session::keep(&mut buffer[..end], fed.used);
     Round {
         session,
         have: left,

@@ -3,7 +3,7 @@
 -- one reply of that number with all else zero, and stops. An unfinished last request gets no reply."
 -- The bytes come in pieces of any size. What is unfinished is not used, and is given again with what follows it.
 -- Assumes nothing.
-use Prim.Native.Nat.{ℕ, _+_, _-_, _*_}
+use Prim.Native.Nat.{ℕ, _+_, _*_}
 use mathlib.Core.Bool.{Bool, _||_, cond}
 use mathlib.Core.List.{List, [], _++_}
 use lib.ListN.{length, getD, take, drop}
@@ -82,9 +82,6 @@ fed s bytes room =
 
 -- THE CALLER'S BYTES
 
--- of the first `have` bytes those past the first `used`, moved to the front
-abbrev pub unused : ℕ → ℕ → List ℕ → List ℕ
-unused used have bytes = take (have - used) (drop used bytes)
-
-unfoldable pub kept : ℕ → ℕ → List ℕ → List ℕ
-kept used have bytes = unused used have bytes ++ drop (length (unused used have bytes)) bytes
+-- those past the first `used`, moved to the front
+unfoldable pub kept : ℕ → List ℕ → List ℕ
+kept used bytes = drop used bytes ++ drop (length (drop used bytes)) bytes

@@ -3,10 +3,10 @@
 
 ghost use mathlib.Core.Path.{_≡_};
 ghost use mathlib.Core.Bool.{true, cond};
-ghost use Prim.Native.Nat.{_+_, _≤_, _<_, min};
-ghost use lib.ListN.{length};
+ghost use Prim.Native.Nat.{_≤_, _<_};
+ghost use lib.ListN.{length, drop};
 ghost use lib.Dec.{ltb};
-ghost use Rattle.session.specs.Session.{announced, decided, refusal, started, ended, serves, opens, fed, unused, kept};
+ghost use Rattle.session.specs.Session.{announced, decided, refusal, started, ended, serves, opens, fed, kept};
 use house::House;
 use house::Reply;
 use opening::open;
@@ -158,21 +158,14 @@ pub fn feed(s: Session, bytes: &[u8], replies: &mut [u8]) -> Fed
     }
 }
 
-fn least(a: usize, b: usize) -> usize
-    ensures { λ r. ⌜ r ≡ min a b ⌝ }
-{
-    if a < b { a } else { b }
-}
-
 // Moves what was not used to the front, and says how much that is.
-pub fn keep(bytes: &mut [u8], used: usize, have: usize) -> usize
-    ensures { λ r. ⌜ (r ≡ length (unused used have (now (bytes .entry)))) × (now (bytes .exit) ≡ kept used have (now (bytes .entry))) ⌝ }
+pub fn keep(bytes: &mut [u8], used: usize) -> usize
+    ensures { λ r. ⌜ (r ≡ length (drop used (now (bytes .entry)))) × (now (bytes .exit) ≡ kept used (now (bytes .entry))) ⌝ }
 {
-    let end = least(have, bytes.len());
-    if end <= used {
+    if bytes.len() <= used {
         return 0;
     }
-    let left = end - used;
+    let left = bytes.len() - used;
     for k in 0..left {
         bytes[k] = bytes[used + k];
     }

@@ -64,6 +64,12 @@ slice-aggregate-write-all c = sym (length-take-le _ _ (within (c .before .before
 write-all-requires : tie.Need-write-all-requires
 write-all-requires c κs = search needs
 
+slice-relend-prefix-keep : tie.Need-slice-relend-prefix-keep
+slice-relend-prefix-keep c = search needs
+
+slice-aggregate-keep : tie.Need-slice-aggregate-keep
+slice-aggregate-keep c = sym (length-take-le _ _ (omega arith))
+
 keep-requires : tie.Need-keep-requires
 keep-requires c κs = search needs
 
@@ -77,7 +83,7 @@ same-length-3 : tie.Need-same-length-3
 same-length-3 c = search needs
 
 returns-2 : tie.Need-returns-2
-returns-2 c = kept-within _ _ _ (c .before .before .before .keep .ensures)
+returns-2 c = kept-within _ _ (c .before .before .before .keep .ensures) _
 
 pub exchange-spec : {M : Type 1} → statement M
 exchange-spec =
@@ -100,6 +106,8 @@ exchange-spec =
     slice-reshare-prefix-write-all
     slice-aggregate-write-all
     write-all-requires
+    slice-relend-prefix-keep
+    slice-aggregate-keep
     keep-requires
     is-refused-requires
     same-length-2

@@ -1,31 +1,27 @@
 use Prim.Native.Nat.{_-_, _≤_}
 use native.Mathlib.Omega.{arith}
 use mathlib.Core.Path.{_≡_, refl, sym, _∙_}
-use lib.ListN.{length, drop, length-set}
+use lib.ListN.{length, drop, length-set, length-drop}
 use lib.Seq.{paste, paste-zero}
 use borrow.Author.Needs.{needs}
-use Rattle.session.proofs.Keeping.{moved, left-is, kept-is}
+use Rattle.session.proofs.Keeping.{moved, kept-is}
 use Rattle.session.proofs.keep.Statement.{statement}
 use Rattle.session.proofs.keep.Tie as tie
-use Rattle.session.specs.Session.{unused}
 
 abbrev Inv-loop : tie.InvT-loop
-Inv-loop bytes₀ used have end left k₀ bytes k = (k ≤ left) × (length bytes ≡ length bytes₀) × (bytes ≡ paste bytes₀ 0 (drop used bytes₀) k)
+Inv-loop bytes₀ used left k₀ bytes k = (k ≤ left) × (length bytes ≡ length bytes₀) × (bytes ≡ paste bytes₀ 0 (drop used bytes₀) k)
 
 abbrev μ-loop : tie.MeasureT-loop
-μ-loop bytes₀ used have end left k₀ bytes k = left - k
-
-least-requires : tie.Need-least-requires Inv-loop μ-loop
-least-requires c κs = search needs
+μ-loop bytes₀ used left k₀ bytes k = left - k
 
 returns : tie.Need-returns Inv-loop μ-loop
-returns c = let b = c .before .before .before .args .bytes .now in let used = c .before .before .before .args .used in let have = c .before .before .before .args .have in let z : length (unused used have b) ≡ 0 = left-is b used have ∙ omega arith in (sym z, rw z at (kept-is b used have))
+returns c = let b = c .before .args .bytes .now in let used = c .before .args .used in let z : length (drop used b) ≡ 0 = length-drop used b ∙ omega arith in (sym z, rw z at (kept-is b used))
 
 sub-left : tie.Need-sub-left Inv-loop μ-loop
 sub-left c = search needs
 
 loop-holds : tie.Need-loop-holds Inv-loop μ-loop
-loop-holds c = (omega arith, refl, paste-zero (c .before .before .before .args .bytes .now) 0 (drop (c .before .before .before .args .used) (c .before .before .before .args .bytes .now)))
+loop-holds c = (omega arith, refl, paste-zero (c .before .args .bytes .now) 0 (drop (c .before .args .used) (c .before .args .bytes .now)))
 
 add-bytes : tie.Need-add-bytes Inv-loop μ-loop
 add-bytes c = search needs
@@ -43,13 +39,13 @@ loop-less : tie.Need-loop-less Inv-loop μ-loop
 loop-less c = search needs
 
 loop-again : tie.Need-loop-again Inv-loop μ-loop
-loop-again c = (omega arith, simp length-set (c .before .before .loop .inv .1), moved (c .before .before .before .before .before .before .args .bytes .now) (c .before .before .before .before .before .before .args .used) (c .before .before .loop .k) (omega arith) (c .before .before .loop .inv .2))
+loop-again c = (omega arith, simp length-set (c .before .before .loop .inv .1), moved (c .before .before .before .before .args .bytes .now) (c .before .before .before .before .args .used) (c .before .before .loop .k) (omega arith) (c .before .before .loop .inv .2))
 
 same-length : tie.Need-same-length Inv-loop μ-loop
 same-length c = search needs
 
 returns-2 : tie.Need-returns-2 Inv-loop μ-loop
-returns-2 c = let b = c .before .before .before .before .before .args .bytes .now in let used = c .before .before .before .before .before .args .used in let have = c .before .before .before .before .before .args .have in let e : c .before .loop .k ≡ length (unused used have b) = omega (arith, left-is b used have) in (omega (arith, left-is b used have), c .before .loop .inv .2 ∙ rw e (kept-is b used have))
+returns-2 c = let b = c .before .before .before .args .bytes .now in let used = c .before .before .before .args .used in let e : c .before .loop .k ≡ length (drop used b) = omega (arith, length-drop used b) in (omega (arith, length-drop used b), c .before .loop .inv .2 ∙ rw e (kept-is b used))
 
 pub keep-spec : {M : Type 1} → statement M
 keep-spec =
@@ -57,7 +53,6 @@ keep-spec =
     (tie.spec
     Inv-loop
     μ-loop
-    least-requires
     returns
     sub-left
     loop-holds
