@@ -2,10 +2,10 @@
 
 ghost use mathlib.Core.Path.{_≡_};
 ghost use Rattle.house.specs.Opening.{opening};
-ghost use Rattle.turn.specs.Turn.{turned, answered};
+ghost use Rattle.desk.specs.Turn.{turned, answered};
+use desk::turn;
+use desk::turn_by_steps;
 use opening::open;
-use turn::turn;
-use turn::turn_by_steps;
 
 // The number of an opening: 0, 13 or 14.
 #[no_mangle]

@@ -15,7 +15,7 @@ use Rattle.house.proofs.Runs.{finally-append}
 use Rattle.wire.specs.Wire.{requestAt, replyAt, replyBytes}
 use Rattle.wire.specs.RoundTrip.{FitReply}
 use Rattle.wire.proofs.RoundTrip.{reply-read-back}
-use Rattle.turn.specs.Turn.{requests, wired, share, housed, turned, answered}
+use Rattle.desk.specs.Turn.{requests, wired, share, housed, turned, answered}
 use Rattle.serial.specs.Demand.{trace, Demand3}
 use Rattle.serial.proofs.Demand.{trace-append, demand}
 use Rattle.serial_bytes.specs.Bytes.{Given, taken, afterTurns, exchanged, events, InBytes, Demand3OverBytes, OverBytes}

@@ -8,8 +8,8 @@ use lib.ListN.{getD, drop}
 use Rattle.house.specs.declared.House.{House}
 use Rattle.house.specs.Opening.{opening}
 use Rattle.wire.specs.Wire.{requestAt, replyAt}
-use Rattle.turn.specs.declared.Served.{Served}
-use Rattle.turn.specs.Turn.{turned, answered}
+use Rattle.desk.specs.declared.Served.{Served}
+use Rattle.desk.specs.Turn.{turned, answered}
 use Rattle.serial.specs.Demand.{Event, work, commits, answers, serially, table}
 
 -- what is given to a turn: request bytes, reply bytes that are lent, and the most requests it may handle

@@ -7,7 +7,7 @@ use mathlib.Core.Path.{_≡_, sym, _∙_}
 use mathlib.Core.List.{List, _++_}
 use lib.ListN.{length, getD, set, take, drop, length-append, length-drop}
 use lib.Seq.{paste, take-length, length-take-le, getD-append-add, getD-drop}
-use Rattle.turn.proofs.Laws.{copied}
+use Rattle.desk.proofs.Laws.{copied}
 use Rattle.session.specs.Session.{kept}
 
 -- the byte that is moved next has not been written over

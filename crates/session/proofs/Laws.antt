@@ -13,8 +13,8 @@ use Rattle.house.specs.declared.House.{House}
 use Rattle.house.specs.declared.Opening.{Opening}
 use Rattle.house.specs.Opening.{wrongLength, openVerdict, opening}
 use Rattle.house.proofs.Tests.{is, clash, or-elim}
-use Rattle.turn.specs.Turn.{turned}
-use Rattle.turn.proofs.Laws.{share-fits, length-answered}
+use Rattle.desk.specs.Turn.{turned}
+use Rattle.desk.proofs.Laws.{share-fits, length-answered}
 use Rattle.session.specs.declared.Fed.{Fed}
 use Rattle.session.specs.declared.Session.{Session}
 use Rattle.session.specs.declared.Stage.{Stage}

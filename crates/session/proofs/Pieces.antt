@@ -15,9 +15,9 @@ use Rattle.house.specs.Opening.{wrongLength, openVerdict, opening}
 use Rattle.house.specs.Run.{replies}
 use Rattle.house.proofs.Runs.{replies-append}
 use Rattle.house.proofs.Tests.{is, clash, or-elim, or-false, or-right}
-use Rattle.turn.specs.Turn.{requests, wired, share, housed, turned, answered}
-use Rattle.turn.proofs.Laws.{requests-add, length-wired, wired-append}
-use Rattle.turn.proofs.TwoTurns.{requests-append}
+use Rattle.desk.specs.Turn.{requests, wired, share, housed, turned, answered}
+use Rattle.desk.proofs.Laws.{requests-add, length-wired, wired-append}
+use Rattle.desk.proofs.TwoTurns.{requests-append}
 use Rattle.session.specs.declared.Fed.{Fed}
 use Rattle.session.specs.declared.Session.{Session}
 use Rattle.session.specs.declared.Stage.{Stage}

@@ -9,7 +9,7 @@ use lib.Dec.{eqb, leb}
 use Rattle.house.specs.declared.House.{House}
 use Rattle.house.specs.Opening.{opening}
 use Rattle.house.specs.Run.{replies}
-use Rattle.turn.specs.Turn.{requests, wired}
+use Rattle.desk.specs.Turn.{requests, wired}
 use Rattle.session.specs.declared.Session.{Session}
 use Rattle.session.specs.declared.Stage.{Stage}
 use Rattle.session.specs.declared.Stage.the-variants.{Waiting, Open, Refused}

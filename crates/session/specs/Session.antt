@@ -11,7 +11,7 @@ use lib.Dec.{eqb, ltb}
 use Rattle.house.specs.declared.House.{House}
 use Rattle.house.specs.Opening.{opening}
 use Rattle.wire.specs.Wire.{replyBytes}
-use Rattle.turn.specs.Turn.{turned, answered}
+use Rattle.desk.specs.Turn.{turned, answered}
 use Rattle.session.specs.declared.Fed.{Fed}
 use Rattle.session.specs.declared.Session.{Session}
 use Rattle.session.specs.declared.Stage.{Stage}

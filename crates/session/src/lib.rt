@@ -7,10 +7,10 @@ ghost use Prim.Native.Nat.{_≤_, _<_};
 ghost use lib.ListN.{length, drop};
 ghost use lib.Dec.{ltb};
 ghost use Rattle.session.specs.Session.{announced, decided, refusal, started, ended, serves, opens, fed, kept};
+use desk::turn;
 use house::House;
 use house::Reply;
 use opening::open;
-use turn::turn;
 use wire::encode;
 
 // Before the levels came, after them, and after a refused opening, with its number.

@@ -4,8 +4,8 @@ use mathlib.Core.Path.{_≡_, ap, _∙_}
 use lib.ListN.{take, length-drop, length, drop}
 use lib.Seq.{take-all}
 use borrow.Author.Needs.{needs}
-use Rattle.turn.proofs.Laws.{share-fits}
-use Rattle.turn.specs.Turn.{share, turned, answered}
+use Rattle.desk.proofs.Laws.{share-fits}
+use Rattle.desk.specs.Turn.{share, turned, answered}
 use Rattle.session.proofs.serve.Statement.{statement}
 use Rattle.session.proofs.serve.Tie as tie
 use Rattle.session.specs.Session.{serves}

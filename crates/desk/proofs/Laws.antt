@@ -1,0 +1,101 @@
+-- Laws of a turn: the bytes of a request, and one request more.
+-- Assumes nothing.
+use Prim.Native.Nat.{ℕ, zero, suc, _+_, _*_, _<_, _≤_}
+use native.Mathlib.Nat.{add-zero, zero-add, add-assoc}
+use native.Mathlib.Numerals.{add-one}
+use native.Mathlib.Omega.{arith}
+use mathlib.Core.Path.{_≡_, refl, sym, ap, _∙_}
+use mathlib.Core.List.{List, [], _∷_, _++_, append-assoc, append-nil}
+use lib.ListN.{length, getD, set, take, drop, replicate, length-append, length-drop}
+use lib.Seq.{getD-take, getD-drop, drop-drop, take-at, paste, drop-append-add, paste-suc}
+use Rattle.house.specs.declared.House.{House}
+use Rattle.house.specs.declared.Outcome.{Outcome}
+use Rattle.house.specs.declared.Reply.{Reply}
+use Rattle.house.specs.Rules.{stepped}
+use Rattle.house.specs.Run.{finally, replies}
+use Rattle.house.proofs.Runs.{finally-append, replies-append}
+use Rattle.wire.specs.Wire.{requestAt, replyBytes}
+use Rattle.desk.specs.Turn.{requests, wired, share, written, housed, answered}
+
+-- one byte more of a copy
+pub copied : (d : List ℕ) (at : ℕ) (s : List ℕ) (j : ℕ) {out : List ℕ} {v : ℕ} → out ≡ paste d at s j → v ≡ getD s j 0 → at + j < length d → j < length s → set out (at + j) v ≡ paste d at s (j + 1)
+copied d at s j e f h k = rw (e, f, add-one) (paste-suc d at s j 0 h k)
+
+-- a request is where its bytes are
+pub requestAt-drop : (b : List ℕ) (m o : ℕ) → requestAt (drop m b) o ≡ requestAt b (m + o)
+unfolding requestAt
+requestAt-drop b m o = simp (getD-drop, add-assoc)
+
+requestAt-take : (b : List ℕ) → requestAt (take 12 b) 0 ≡ requestAt b 0
+unfolding requestAt
+requestAt-take b =
+    let at : (k : ℕ) → k < 12 → getD (take 12 b) k 0 ≡ getD b k 0 = λ k l. getD-take 12 b k 0 l in
+    rw (at 0 (omega arith), at 1 (omega arith), at 2 (omega arith), at 3 (omega arith), at 4 (omega arith), at 5 (omega arith), at 6 (omega arith), at 7 (omega arith), at 8 (omega arith), at 9 (omega arith), at 10 (omega arith), at 11 (omega arith))
+
+pub requestAt-copied : (b : List ℕ) (at : ℕ) → requestAt (paste (replicate 12 0) 0 (drop at b) 12) 0 ≡ requestAt b at
+requestAt-copied b at = rw (append-nil (take 12 (drop at b))) (requestAt-take (drop at b) ∙ requestAt-drop b at 0 ∙ rw (add-zero at))
+
+-- requests in two parts
+pub requests-add : (n m : ℕ) (b : List ℕ) → requests (n + m) b ≡ requests n b ++ requests m (drop (n * 12) b)
+unfolding requests
+requests-add zero m b = rw (zero-add m)
+requests-add (suc n) m b =
+    let e : suc n + m ≡ suc (n + m) = omega arith in
+    let f : 12 + n * 12 ≡ suc n * 12 = omega arith in
+    rw e (ap (λ l. requestAt b 0 ∷ l) (requests-add n m (drop 12 b) ∙ rw (drop-drop (n * 12) 12 b, f)))
+
+-- the last of n + 1
+pub requests-last : (n : ℕ) (b : List ℕ) → requests (n + 1) b ≡ requests n b ++ (requestAt b (n * 12) ∷ [])
+unfolding requests
+requests-last n b = requests-add n 1 b ∙ rw (requestAt-drop b (n * 12) 0, add-zero (n * 12))
+
+-- how long replies are
+length-replyBytes : (r : Reply) → length (replyBytes r) ≡ 16
+unfolding replyBytes
+length-replyBytes r = refl
+
+pub length-wired : (h : House) (n : ℕ) (b : List ℕ) → length (wired (replies h (requests n b))) ≡ n * 16
+unfolding wired replies requests
+length-wired h zero b = refl
+length-wired h (suc n) b =
+    let o = stepped h (requestAt b 0) in
+    length-append (replyBytes (o .reply)) (wired (replies (o .house) (requests n (drop 12 b))))
+    ∙ rw (length-replyBytes (o .reply), length-wired (o .house) n (drop 12 b)) (omega arith)
+
+pub wired-append : (rs ss : List Reply) → wired (rs ++ ss) ≡ wired rs ++ wired ss
+unfolding wired
+wired-append [] ss = refl
+wired-append (r ∷ rs) ss = ap (λ l. replyBytes r ++ l) (wired-append rs ss) ∙ sym (append-assoc (replyBytes r) (wired rs) (wired ss))
+
+-- One request more: the house, and the reply bytes
+
+module _ (h : House) (input room : List ℕ) (n : ℕ) where
+  abbrev pub next : Outcome
+  next = stepped (housed n h input) (requestAt input (n * 12))
+
+  pub housed-next : housed (n + 1) h input ≡ next .house
+  unfolding finally
+  housed-next = rw (requests-last n input) (finally-append h (requests n input) (requestAt input (n * 12) ∷ []))
+
+  pub written-next : {out : List ℕ} {r : Reply} → out ≡ written n h input room → r ≡ next .reply → paste out (n * 16) (replyBytes r) 16 ≡ written (n + 1) h input room
+  unfolding replies wired replyBytes
+  written-next so is =
+      let W = wired (replies h (requests n input)) in
+      let D = drop (n * 16) room in
+      let long : length W ≡ n * 16 = length-wired h n input in
+      let past : drop (n * 16 + 16) (W ++ D) ≡ drop (n * 16 + 16) room = (rw long at (drop-append-add W D 16)) ∙ drop-drop 16 (n * 16) room in
+      let e : (n + 1) * 16 ≡ n * 16 + 16 = omega arith in
+      rw (so, is)
+      (rw (take-at W D (n * 16) long, past, requests-last n input, replies-append h (requests n input) (requestAt input (n * 12) ∷ []), wired-append (replies h (requests n input)) (replies (housed n h input) (requestAt input (n * 12) ∷ [])), e))
+
+-- a turn has the bytes of its requests, and room for its replies
+pub share-fits : (most : ℕ) (input room : List ℕ) → (share most input room * 12 ≤ length input) × (share most input room * 16 ≤ length room)
+unfolding share
+share-fits most input room = (omega arith, omega arith)
+
+pub length-answered : (h : House) (input room : List ℕ) (most : ℕ) → length (answered h input room most) ≡ length room
+unfolding answered
+length-answered h input room most =
+    let n = share most input room in
+    length-append (wired (replies h (requests n input))) (drop (n * 16) room)
+    ∙ rw (length-wired h n input, length-drop (n * 16) room) (omega (arith, share-fits most input room))

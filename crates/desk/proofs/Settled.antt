@@ -1,0 +1,28 @@
+-- Each promise settles its outcome: any two that it allows for the same arguments are equal, and so are the reply bytes, which
+-- stand at `s .1 .1 .0`: what the third parameter lends, as the function returns.
+-- `Reads.Post` is the contract as the checker reads it off the source.
+-- Assumes nothing.
+use mathlib.Core.Path.{_≡_, sym, _∙_}
+use borrow.Fn.Kinds as Kinds'
+use borrow.Fn.World
+use contract.Lifetimes
+use denote.Ref.{now}
+use denote.Triple.Clauses
+use Rattle.desk.proofs.single.step as step
+use Rattle.desk.proofs.single.step.Kinds as step-kinds
+use Rattle.desk.proofs.single.step.Reads as step-reads
+use Rattle.desk.proofs.running.turn as turn
+use Rattle.desk.proofs.running.turn.Kinds as turn-kinds
+use Rattle.desk.proofs.running.turn.Reads as turn-reads
+use Rattle.desk.proofs.stepping.turn_by_steps as by-steps
+use Rattle.desk.proofs.stepping.turn_by_steps.Kinds as by-steps-kinds
+use Rattle.desk.proofs.stepping.turn_by_steps.Reads as by-steps-reads
+
+pub step-settled : (κs : Lifetimes.Lfts 0) (a : World.ArgsD step.signature κs) (r r′ : World.ResD step.signature κs) (s s′ : Clauses.AtExit (Kinds'.endedOf 0 step-kinds.ps step-kinds.r) κs) → step-reads.Post κs a r s → step-reads.Post κs a r′ s′ → r ≡ r′
+step-settled κs a r r′ s s′ p q = p ∙ sym q
+
+pub turn-settled : (κs : Lifetimes.Lfts 2) (a : World.ArgsD turn.signature κs) (r r′ : World.ResD turn.signature κs) (s s′ : Clauses.AtExit (Kinds'.endedOf 2 turn-kinds.ps turn-kinds.r) κs) → turn-reads.Post κs a r s → turn-reads.Post κs a r′ s′ → (r ≡ r′) × (now (s .1 .1 .0) ≡ now (s′ .1 .1 .0))
+turn-settled κs a r r′ s s′ p q = (p .0 ∙ sym (q .0), p .1 ∙ sym (q .1))
+
+pub turn-by-steps-settled : (κs : Lifetimes.Lfts 2) (a : World.ArgsD by-steps.signature κs) (r r′ : World.ResD by-steps.signature κs) (s s′ : Clauses.AtExit (Kinds'.endedOf 2 by-steps-kinds.ps by-steps-kinds.r) κs) → by-steps-reads.Post κs a r s → by-steps-reads.Post κs a r′ s′ → (r ≡ r′) × (now (s .1 .1 .0) ≡ now (s′ .1 .1 .0))
+turn-by-steps-settled κs a r r′ s s′ p q = (p .0 ∙ sym (q .0), p .1 ∙ sym (q .1))

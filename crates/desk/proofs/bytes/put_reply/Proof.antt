@@ -1,0 +1,62 @@
+use Prim.Native.Nat.{_-_, _≤_}
+use native.Mathlib.Omega.{arith}
+use mathlib.Core.Path.{_≡_, refl, sym, _∙_}
+use lib.ListN.{length, length-set}
+use lib.Seq.{paste, paste-zero}
+use borrow.Author.Needs.{needs}
+use Rattle.desk.proofs.Laws.{copied}
+use Rattle.desk.proofs.bytes.put_reply.Statement.{statement}
+use Rattle.desk.proofs.bytes.put_reply.Tie as tie
+
+abbrev Inv-loop : tie.InvT-loop
+Inv-loop b₀ at x k₀ b k = (k ≤ 16) × (length b ≡ length b₀) × (b ≡ paste b₀ at x k)
+
+abbrev μ-loop : tie.MeasureT-loop
+μ-loop b₀ at x k₀ b k = 16 - k
+
+encode-requires : tie.Need-encode-requires Inv-loop μ-loop
+encode-requires c κs = search needs
+
+loop-holds : tie.Need-loop-holds Inv-loop μ-loop
+loop-holds c = (omega arith, refl, paste-zero (c .before .before .args .b .now) (c .before .before .args .at) (c .encode .result))
+
+array-read-b : tie.Need-array-read-b Inv-loop μ-loop
+array-read-b c = search needs
+
+add-b : tie.Need-add-b Inv-loop μ-loop
+add-b c = search needs
+
+slice-write-b : tie.Need-slice-write-b Inv-loop μ-loop
+slice-write-b c = search needs
+
+add-k : tie.Need-add-k Inv-loop μ-loop
+add-k c = search needs
+
+loop-less : tie.Need-loop-less Inv-loop μ-loop
+loop-less c = search needs
+
+loop-again : tie.Need-loop-again Inv-loop μ-loop
+loop-again c = (omega arith, simp length-set (c .before .loop .inv .1), copied (c .before .before .before .before .args .b .now) (c .before .before .before .before .args .at) (c .before .before .encode .result) (c .before .loop .k) (c .before .loop .inv .2) refl (omega arith) (let l : length (c .before .before .encode .result) ≡ 16 = search needs in omega arith))
+
+same-length : tie.Need-same-length Inv-loop μ-loop
+same-length c = search needs
+
+returns : tie.Need-returns Inv-loop μ-loop
+returns c = let e : c .before .loop .k ≡ 16 = omega arith in rw (sym (c .before .before .encode .ensures)) (c .before .loop .inv .2 ∙ rw e)
+
+pub put-reply-spec : {M : Type 1} → statement M
+put-reply-spec =
+    tie.close
+    (tie.spec
+    Inv-loop
+    μ-loop
+    encode-requires
+    loop-holds
+    array-read-b
+    add-b
+    slice-write-b
+    add-k
+    loop-less
+    loop-again
+    same-length
+    returns)
