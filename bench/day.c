@@ -116,6 +116,23 @@ static bool same(const char *example, const char *call, const uint8_t *requests,
 
 static size_t calls, differing;
 
+static size_t least(size_t a, size_t b) { return a < b ? a : b; }
+
+// Openings: done, and refused by length before level.
+static void try_openings(void) {
+    static const struct {
+        uint8_t levels[65];
+        size_t count;
+        uint8_t number;
+    } openings[] = {{{0}, 1, 0}, {{0, 3, 1}, 3, 0}, {{0}, 0, 13}, {{4}, 65, 13}, {{0, 4}, 2, 14}};
+    for (size_t k = 0; k < sizeof openings / sizeof *openings; k++, calls++) {
+        uint8_t number = desk_open(openings[k].levels, openings[k].count);
+        if (number == openings[k].number) continue;
+        printf("opening %zu: %u, not %u\n", k + 1, number, openings[k].number);
+        differing++;
+    }
+}
+
 static void try(const struct example *e) {
     uint8_t requests[(MOST_STEPS + 1) * REQUEST_BYTES], expected[MOST_STEPS * REPLY_BYTES];
     uint8_t replies[(MOST_STEPS + 1) * REPLY_BYTES];
@@ -130,21 +147,21 @@ static void try(const struct example *e) {
         differing++;
     }
     size_t whole = e->steps * REQUEST_BYTES, place = e->steps * REPLY_BYTES;
-    // Turns of one request, of a few, and one turn for all; with an unfinished request at the end
-    // and more places than replies; with one place too few.
+    // A turn of one request, of a few, and of all; with an unfinished request at the end and more
+    // places than replies; with one place too few.
     static const size_t mosts[] = {1, 3, 1000000};
     for (size_t m = 0; m < 3; m++) {
         char call[32];
-        snprintf(call, sizeof call, "desk_run in turns of %zu", mosts[m]);
+        snprintf(call, sizeof call, "desk_run of at most %zu", mosts[m]);
         memset(replies, GUARD, sizeof replies);
         size_t answered = desk_run(e->levels, e->items, requests, whole + REQUEST_BYTES - 1,
                                    replies, sizeof replies, mosts[m]);
-        differing += !same(e->name, call, requests, expected, replies, sizeof replies, e->steps,
-                           answered);
+        differing += !same(e->name, call, requests, expected, replies, sizeof replies,
+                           least(mosts[m], e->steps), answered);
         memset(replies, GUARD, sizeof replies);
         answered = desk_run(e->levels, e->items, requests, whole, replies, place - 1, mosts[m]);
         differing += !same(e->name, call, requests, expected, replies, sizeof replies,
-                           e->steps - 1, answered);
+                           least(mosts[m], e->steps - 1), answered);
         calls += 2;
     }
     memset(replies, GUARD, sizeof replies);
@@ -161,7 +178,8 @@ static void try(const struct example *e) {
 
 int main(void) {
     size_t count = sizeof examples / sizeof *examples;
+    try_openings();
     for (size_t k = 0; k < count; k++) try(&examples[k]);
-    printf("the worked day and M1 to M%zu: %zu calls, %zu differ\n", count - 1, calls, differing);
+    printf("openings, the worked day and M1 to M%zu: %zu calls, %zu differ\n", count - 1, calls, differing);
     return differing == 0 ? 0 : 1;
 }

@@ -1,16 +1,16 @@
-// The desk as a program: standard input to standard output. All that it decides is decided by `session`; here bytes are read,
+// The desk as a program: standard input to standard output. All that it decides is decided by `dialogue`; here bytes are read,
 // handed over and written, and what is answered is written before more is read.
 
 ghost use Prim.Native.Nat.{_≤_};
 ghost use lib.ListN.{length};
+use dialogue::Dialogue;
+use dialogue::Stage;
 use libc::STDIN_FILENO;
 use libc::STDOUT_FILENO;
-use session::Session;
-use session::Stage;
 
-// The session after a round, how many bytes are left for the next, and whether there is one.
+// The dialogue after a round, how many bytes are left for the next, and whether there is one.
 struct Round {
-    session: Session,
+    dialogue: Dialogue,
     have: usize,
     goes_on: bool,
 }
@@ -24,43 +24,43 @@ fn is_refused(stage: Stage) -> bool {
 }
 
 // One read, and the replies to what it brought. The replies to all requests that the buffer can hold have room.
-fn exchange(s: Session, buffer: &mut [u8], have: usize, replies: &mut [u8]) -> Round
+fn exchange(s: Dialogue, buffer: &mut [u8], have: usize, replies: &mut [u8]) -> Round
     requires { ⌜ have ≤ length (now buffer) ⌝ }
     ensures { λ r. ⌜ r .have ≤ length (now (buffer .exit)) ⌝ }
 {
     let got = libc::read(STDIN_FILENO, &mut buffer[have..]);
     if got <= 0 {
         return Round {
-            session: s,
+            dialogue: s,
             have,
             goes_on: false,
         };
     }
     let more = io::count(got, &buffer[have..]);
     let end = have + more;
-    let fed = session::feed(s, &buffer[..end], replies);
-    let session = fed.session;
-    let stage = session.stage;
+    let fed = dialogue::feed(s, &buffer[..end], replies);
+    let dialogue = fed.dialogue;
+    let stage = dialogue.stage;
     let written = fed.written;
     let is_written = io::write_all(STDOUT_FILENO, &replies[..written]);
-    let left = session::keep(&mut buffer[..end], fed.used);
+    let left = dialogue::keep(&mut buffer[..end], fed.used);
     Round {
-        session,
+        dialogue,
         have: left,
         goes_on: is_written & !is_refused(stage),
     }
 }
 
 // A proved loop has to end, and nothing says that an input does. So it counts down from a number that no run uses up.
-fn converse() -> Session {
+fn converse() -> Dialogue {
     let mut buffer = [0u8; 12288];
     let mut replies = [0u8; 16384];
-    let mut s = session::start();
+    let mut s = dialogue::start();
     let mut have = 0;
     let mut rounds = u64::MAX;
     while rounds > 0 {
         let r = exchange(s, &mut buffer, have, &mut replies);
-        let next = r.session;
+        let next = r.dialogue;
         s = next;
         have = r.have;
         if !r.goes_on {
@@ -74,8 +74,8 @@ fn converse() -> Session {
 fn main() {
     let s = converse();
     let stage = s.stage;
-    if let Stage::Refused(number) = session::finish(stage) {
-        let reply = session::refuse(number);
+    if let Stage::Refused(number) = dialogue::finish(stage) {
+        let reply = dialogue::refuse(number);
         io::write_all(STDOUT_FILENO, &reply);
     }
 }

@@ -4,8 +4,8 @@ use mathlib.Core.Path.{sym, subst}
 use lib.ListN.{length}
 use lib.Seq.{length-take-le}
 use borrow.Author.Needs.{needs}
-use Rattle.session.proofs.Keeping.{kept-within}
-use Rattle.session.proofs.Laws.{Within, fed-within}
+use Rattle.dialogue.proofs.Keeping.{kept-within}
+use Rattle.dialogue.proofs.Laws.{Within, fed-within}
 use Rattle.program.proofs.exchange.Statement.{statement}
 use Rattle.program.proofs.exchange.Tie as tie
 

@@ -1,0 +1,214 @@
+-- The whole input at once, and in pieces.
+-- Assumes nothing.
+use Prim.Native.Nat.{ℕ, zero, _+_, _*_, _/_, _<_, _≤_}
+use native.Mathlib.Omega.{arith}
+use mathlib.Core.Path.{_≡_, refl, sym, ap, _∙_}
+use mathlib.Core.Logic.{inl, inr}
+use mathlib.Core.Bool.{true, false}
+use mathlib.Core.List.{List, [], _∷_, _++_, append-assoc, append-nil}
+use lib.ListN.{length, take, drop, length-append, length-take, length-drop, List·getD-append}
+use lib.Seq.{take-at, drop-drop, drop-append-le, take-append-le, drop-length}
+use lib.Dec.{eqb, ltb, leb}
+use borrow.Author.Tests.{eqb-true, eqb-false, ltb-true, ltb-false, leb-false, le-leb, lt-leb, lt-ltb}
+use Rattle.house.specs.declared.House.{House}
+use Rattle.house.specs.Opening.{wrongLength, openVerdict, opening}
+use Rattle.house.specs.Run.{replies}
+use Rattle.house.proofs.Runs.{replies-append}
+use Rattle.house.proofs.Tests.{is, clash, or-elim, or-false, or-right}
+use Rattle.desk.specs.Turn.{requests, wired, share, housed, turned, answered}
+use Rattle.desk.proofs.Laws.{requests-add, length-wired, wired-append}
+use Rattle.desk.proofs.TwoTurns.{requests-append}
+use Rattle.dialogue.specs.declared.Fed.{Fed}
+use Rattle.dialogue.specs.declared.Dialogue.{Dialogue}
+use Rattle.dialogue.specs.declared.Stage.{Stage}
+use Rattle.dialogue.specs.declared.Stage.the-variants.{Waiting, Open, Refused}
+use Rattle.dialogue.specs.Dialogue.{announced, decided, levels, refusal, atStage, started, ended, drops, serves, fed}
+use Rattle.dialogue.specs.Pieces.{replied, programmed, Piece, joined, farewell, conversed, Enough, Roomy, InPieces, LeavesLittle}
+use Rattle.dialogue.proofs.Laws.{there, opened-there, opens-open, opens-refused, fed-opens, fed-waits, fed-serves, fed-drops}
+
+-- Requests, of bytes in two parts
+
+module _ (h : House) (part rest : List ℕ) where
+  abbrev count : ℕ
+  count = length part / 12
+
+  replied-append : replied h (part ++ rest) ≡ replied h part ++ replied (housed count h part) (drop (count * 12) part ++ rest)
+  unfolding replied
+  replied-append =
+      let past = drop (count * 12) part ++ rest in
+      let m = length past / 12 in
+      let e : length (part ++ rest) / 12 ≡ count + m = rw (length-append part rest, length-append (drop (count * 12) part) rest, length-drop (count * 12) part) (omega arith) in
+      let r : requests (count + m) (part ++ rest) ≡ requests count part ++ requests m past = requests-add count m (part ++ rest) ∙ rw (requests-append count part rest (omega arith), drop-append-le (count * 12) part rest (omega arith)) in
+      rw (e, r, replies-append h (requests count part) (requests m past)) (wired-append (replies h (requests count part)) (replies (housed count h part) (requests m past)))
+
+-- A turn on the requests past the first k bytes, with more to come
+
+module _ (h : House) (k : ℕ) (bytes room : List ℕ) (there : k ≤ length bytes) (enough : Enough bytes room) where
+  abbrev input : List ℕ
+  input = drop k bytes
+
+  all : share (length bytes) input room ≡ length input / 12
+  unfolding share
+  all = rw (length-drop k bytes) (omega arith)
+
+  serves-used : drop (serves h k bytes room .0 .used) bytes ≡ drop (length input / 12 * 12) input
+  unfolding serves turned
+  serves-used = rw all (sym (drop-drop (length input / 12 * 12) k bytes))
+
+  serves-short : length (drop (serves h k bytes room .0 .used) bytes) < 12
+  serves-short = rw (serves-used, length-drop (length input / 12 * 12) input) (omega arith)
+
+  serves-step : (future : List ℕ) → take (serves h k bytes room .0 .written) (serves h k bytes room .1) ++ replied (serves h k bytes room .0 .dialogue .house) (drop (serves h k bytes room .0 .used) bytes ++ future) ≡ replied h (input ++ future)
+  unfolding serves turned answered replied
+  serves-step future =
+      let m = length input / 12 in
+      rw (all, take-at (wired (replies h (requests m input))) (drop (m * 16) room) (m * 16) (length-wired h m input), sym (drop-drop (m * 12) k bytes))
+      (sym (replied-append h input future))
+
+-- The opening, with more to come
+
+module _ (b rest : List ℕ) (there : announced b + 1 ≤ length b) where
+  abbrev len : ℕ
+  len = announced b
+
+  announced-append : announced (b ++ rest) ≡ len
+  announced-append = List·getD-append b rest 0 0 (omega arith)
+
+  levels-append : take len (drop 1 (b ++ rest)) ≡ take len (drop 1 b)
+  levels-append = rw (drop-append-le 1 b rest (omega arith)) (take-append-le len (drop 1 b) rest (rw (length-drop 1 b) (omega arith)))
+
+  come : leb (length (b ++ rest)) len ≡ false
+  come = lt-leb (length (b ++ rest)) len (rw (length-append b rest) (omega arith))
+
+  -- no more than 64 were announced
+  whole : ltb 64 len ≡ false → levels b ≡ take len (drop 1 b)
+  whole e = rw e
+
+  programmed-open : ltb 64 len ≡ false → opening (levels b) .number ≡ 0 → programmed (b ++ rest) ≡ replied (opening (levels b) .house) (drop (len + 1) b ++ rest)
+  unfolding programmed
+  programmed-open e z = rw (announced-append, come, levels-append, sym (whole e), z, drop-append-le (len + 1) b rest there)
+
+  programmed-refused : ltb 64 len ≡ false → (eqb (opening (levels b) .number) 0 ≡ false) → programmed (b ++ rest) ≡ refusal (opening (levels b) .number)
+  unfolding programmed
+  programmed-refused e z = rw (announced-append, come, levels-append, sym (whole e), z)
+
+-- more than 64 were announced
+
+too-long : (l : List ℕ) → 64 < length l → opening l .number ≡ 13
+unfolding opening openVerdict wrongLength
+too-long l h = rw (or-right (eqb (length l) 0) (ltb 64 (length l)) (lt-ltb 64 (length l) h))
+
+programmed-long : (b : List ℕ) → ltb 64 (announced b) ≡ true → programmed b ≡ refusal 13
+unfolding programmed
+programmed-long b y =
+    elim (is (leb (length b) (announced b))) [
+      | inl e ↦ rw e
+      | inr e ↦ rw e
+          (let long : 64 < length (take (announced b) (drop 1 b)) = rw (length-take (announced b) (drop 1 b), length-drop 1 b) (omega (arith, ltb-true 64 (announced b) y, leb-false (length b) (announced b) e)) in
+          rw (too-long (take (announced b) (drop 1 b)) long))
+    ]
+
+-- WHAT IS STILL TO BE WRITTEN, with these bytes to come
+
+unfoldable expected : Dialogue → List ℕ → List ℕ
+expected s b = atStage (s .stage) (programmed b) (replied (s .house) b) (farewell (s .stage))
+
+-- nothing more can be made of these bytes
+unfoldable Unfinished : Dialogue → List ℕ → Type 0
+Unfinished s b = atStage (s .stage) (decided b ≡ false) (length b < 12) (Unit {0})
+
+expected-last : (stage : Stage) (h : House) (b : List ℕ) → Unfinished (record { stage = stage; house = h }) b → farewell (ended stage) ≡ expected (record { stage = stage; house = h }) b
+unfolding expected Unfinished programmed replied decided wired replies requests
+expected-last Waiting h b u = rw (le-leb (length b) (announced b) (ltb-false (announced b) (length b) (or-false _ _ u .0)))
+expected-last Open h b u =
+    let z : length b / 12 ≡ 0 = omega arith in
+    rw z
+expected-last (Refused m) h b u = refl
+
+-- BYTES GIVEN
+
+record After (s : Dialogue) (bytes : List ℕ) (f : Fed × List ℕ) : Type 0 where
+  same : (future : List ℕ) → take (f .0 .written) (f .1) ++ expected (f .0 .dialogue) (drop (f .0 .used) bytes ++ future) ≡ expected s (bytes ++ future)
+  unfinished : Unfinished (f .0 .dialogue) (drop (f .0 .used) bytes)
+  little : length (drop (f .0 .used) bytes) ≤ 64
+
+-- to an open dialogue, or to one that these bytes open
+after-serves : (s : Dialogue) (h : House) (k : ℕ) (bytes room : List ℕ) → k ≤ length bytes → Enough bytes room → ((future : List ℕ) → replied h (drop k bytes ++ future) ≡ expected s (bytes ++ future)) → After s bytes (serves h k bytes room)
+unfolding expected Unfinished serves
+after-serves s h k bytes room there enough e =
+    let short = serves-short h k bytes room there enough in
+    record { same = λ future. serves-step h k bytes room there enough future ∙ e future; unfinished = short; little = omega (arith, short) }
+
+-- to one that is refused, or that these bytes have refused
+after-drops : (s t : Dialogue) (m : ℕ) (bytes room : List ℕ) → t .stage ≡ Refused m → ((future : List ℕ) → refusal m ≡ expected s (bytes ++ future)) → After s bytes (drops t bytes room)
+unfolding expected Unfinished
+after-drops s t m bytes room r e =
+    record { same = λ future. rw r (e future); unfinished = rw r tt; little = rw (drop-length bytes) (omega arith) }
+
+long-number : (b : List ℕ) → ltb 64 (announced b) ≡ true → opening (levels b) .number ≡ 13
+unfolding opening openVerdict wrongLength
+long-number b y = rw y
+
+few : (b : List ℕ) → opening (levels b) .number ≡ 0 → ltb 64 (announced b) ≡ false
+few b z = elim (is (ltb 64 (announced b))) [ inl y ↦ absurd (omega (arith, long-number b y)) | inr n ↦ n ]
+
+refused-now : (b rest : List ℕ) → decided b ≡ true → eqb (opening (levels b) .number) 0 ≡ false → refusal (opening (levels b) .number) ≡ programmed (b ++ rest)
+unfolding decided
+refused-now b rest d z =
+    elim (is (ltb 64 (announced b))) [
+      | inl y ↦
+          let e : announced (b ++ rest) ≡ announced b = List·getD-append b rest 0 0 (there b y) in
+          rw (long-number b y) (sym (programmed-long (b ++ rest) (rw e y)))
+      | inr f ↦
+          let come : ltb (announced b) (length b) ≡ true = or-elim (ltb (announced b) (length b)) (ltb 64 (announced b)) d (λ l. l) (λ y. clash y f) in
+          sym (programmed-refused b rest (omega (arith, ltb-true (announced b) (length b) come)) f z)
+    ]
+
+-- to one that waits for its levels
+after-waiting : (h : House) (bytes room : List ℕ) → Enough bytes room → After (record { stage = Waiting; house = h }) bytes (fed (record { stage = Waiting; house = h }) bytes room)
+unfolding expected Unfinished decided
+after-waiting h bytes room enough =
+    let s : Dialogue = record { stage = Waiting; house = h } in
+    let o = opening (levels bytes) in
+    elim (is (decided bytes)) [
+      | inl y ↦ rw (fed-opens s bytes room refl y)
+          (elim (is (eqb (o .number) 0)) [
+            | inl z ↦
+                let zero : o .number ≡ 0 = eqb-true (o .number) 0 z in
+                let come = opened-there bytes y zero in
+                rw (sym (opens-open bytes room o refl (announced bytes) refl zero))
+                (after-serves s (o .house) (announced bytes + 1) bytes room come enough (λ future. sym (programmed-open bytes future come (few bytes zero) zero)))
+            | inr z ↦
+                rw (sym (opens-refused bytes room o refl (eqb-false (o .number) 0 z)))
+                (after-drops s _ (o .number) bytes room refl (λ future. refused-now bytes future y z))
+          ])
+      | inr n ↦ rw (fed-waits s bytes room refl n)
+          (let u = or-false (ltb (announced bytes) (length bytes)) (ltb 64 (announced bytes)) n in
+          record { same = λ future. refl; unfinished = n; little = omega (arith, ltb-false (announced bytes) (length bytes) (u .0), ltb-false 64 (announced bytes) (u .1)) })
+    ]
+
+after : (stage : Stage) (h : House) (bytes room : List ℕ) → Enough bytes room → After (record { stage = stage; house = h }) bytes (fed (record { stage = stage; house = h }) bytes room)
+unfolding expected Unfinished
+after Waiting h bytes room enough = after-waiting h bytes room enough
+after Open h bytes room enough = rw (fed-serves (record { stage = Open; house = h }) bytes room refl) (after-serves _ h 0 bytes room (omega arith) enough (λ future. refl))
+after (Refused m) h bytes room enough = rw (fed-drops (record { stage = Refused m; house = h }) bytes room m refl) (after-drops _ _ m bytes room refl (λ future. refl))
+
+-- THE THEOREMS
+
+conversed-expected : (s : Dialogue) (unused : List ℕ) (ps : List Piece) → Unfinished s unused → Roomy s unused ps → conversed s unused ps ≡ expected s (unused ++ joined ps)
+unfolding conversed Roomy joined
+conversed-expected s unused [] u r = rw (append-nil unused) (expected-last (s .stage) (s .house) unused u)
+conversed-expected s unused (p ∷ ps) u r =
+    let bytes = unused ++ p .0 in
+    let f = fed s bytes (p .1) in
+    let a = after (s .stage) (s .house) bytes (p .1) (r .0) in
+    ap (λ l. take (f .0 .written) (f .1) ++ l) (conversed-expected (f .0 .dialogue) (drop (f .0 .used) bytes) ps (a .unfinished) (r .1))
+    ∙ a .same (joined ps)
+    ∙ ap (expected s) (append-assoc unused (p .0) (joined ps))
+
+pub in-pieces : InPieces
+unfolding started expected Unfinished decided
+in-pieces ps r = conversed-expected started [] ps refl r
+
+pub leaves-little : LeavesLittle
+leaves-little s bytes room enough = after (s .stage) (s .house) bytes room enough .little

@@ -1,0 +1,14 @@
+use borrow.Author.Needs.{needs}
+use Rattle.dialogue.proofs.is_decided.Statement.{statement}
+use Rattle.dialogue.proofs.is_decided.Tie as tie
+use Rattle.dialogue.specs.Dialogue.{decided}
+
+first-requires : tie.Need-first-requires
+first-requires c κs = search needs
+
+returns : tie.Need-returns
+unfolding decided
+returns c = rw (c .first .ensures .0)
+
+pub is-decided-spec : {M : Type 1} → statement M
+is-decided-spec = tie.close (tie.spec first-requires returns)

@@ -1,0 +1,87 @@
+-- A dialogue: one house, from its opening to the end of the input. "The program reads from standard input one byte n, n level
+-- bytes, then requests, and writes the replies only. If opening is refused, or input ends before the levels do (13), it writes
+-- one reply of that number with all else zero, and stops. An unfinished last request gets no reply."
+-- The bytes come in pieces of any size. What is unfinished is not used, and is given again with what follows it.
+-- Assumes nothing.
+use Prim.Native.Nat.{ℕ, _+_, _*_}
+use mathlib.Core.Bool.{Bool, _||_, cond}
+use mathlib.Core.List.{List, [], _++_}
+use lib.ListN.{length, getD, take, drop}
+use lib.Dec.{eqb, ltb}
+use Rattle.house.specs.declared.House.{House}
+use Rattle.house.specs.Opening.{opening}
+use Rattle.wire.specs.Wire.{replyBytes}
+use Rattle.desk.specs.Turn.{turned, answered}
+use Rattle.dialogue.specs.declared.Fed.{Fed}
+use Rattle.dialogue.specs.declared.Dialogue.{Dialogue}
+use Rattle.dialogue.specs.declared.Stage.{Stage}
+use Rattle.dialogue.specs.declared.Stage.the-variants.{Waiting, Open, Refused}
+
+-- THE OPENING
+
+-- the n that the bytes begin with
+abbrev pub announced : List ℕ → ℕ
+announced bytes = getD bytes 0 0
+
+-- the n levels came; or n is above 64, and refused whatever follows
+unfoldable pub decided : List ℕ → Bool
+decided bytes = ltb (announced bytes) (length bytes) || ltb 64 (announced bytes)
+
+-- the levels to be opened. "length 0 or above 64 gives 13": a number above 64 is refused as no levels are
+abbrev pub levels : List ℕ → List ℕ
+levels bytes = take (cond (ltb 64 (announced bytes)) 0 (announced bytes)) (drop 1 bytes)
+
+-- "one reply of that number with all else zero"
+unfoldable pub refusal : ℕ → List ℕ
+refusal n = replyBytes (record { number = n; operation = 0; item = 0; ticket = 0; value = 0; version = 0 })
+
+-- THE STAGES
+
+abbrev pub atStage {ℓ} : {A : Type ℓ} → Stage → A → A → A → A
+atStage Waiting waiting opened refused = waiting
+atStage Open waiting opened refused = opened
+atStage (Refused n) waiting opened refused = refused
+
+-- nothing came yet
+unfoldable pub started : Dialogue
+started = record { stage = Waiting; house = opening [] .house }
+
+-- "or input ends before the levels do (13)"
+abbrev pub ended : Stage → Stage
+ended s = atStage s (Refused 13) s s
+
+-- WHAT IS MADE OF BYTES: the next dialogue, how many bytes were used, how many reply bytes were written, and the reply bytes
+
+-- they are kept for later, or dropped
+abbrev pub waits : Dialogue → List ℕ → Fed × List ℕ
+waits s room = (record { dialogue = s; used = 0; written = 0 }, room)
+
+abbrev pub drops : Dialogue → List ℕ → List ℕ → Fed × List ℕ
+drops s bytes room = (record { dialogue = s; used = length bytes; written = 0 }, room)
+
+-- past the first k, they are requests
+unfoldable pub serves : House → ℕ → List ℕ → List ℕ → Fed × List ℕ
+serves h k bytes room =
+    let t = turned h (drop k bytes) room (length bytes) in (
+      record { dialogue = record { stage = Open; house = t .house }; used = k + t .count * 12; written = t .count * 16 },
+      answered h (drop k bytes) room (length bytes),
+    )
+
+-- they have all of an opening
+unfoldable pub opens : List ℕ → List ℕ → Fed × List ℕ
+opens bytes room =
+    let o = opening (levels bytes) in
+    cond (eqb (o .number) 0) (serves (o .house) (announced bytes + 1) bytes room)
+    (drops (record { stage = Refused (o .number); house = o .house }) bytes room)
+
+unfoldable pub fed : Dialogue → List ℕ → List ℕ → Fed × List ℕ
+fed s bytes room =
+    atStage (s .stage) (cond (decided bytes) (opens bytes room) (waits s room))
+    (serves (s .house) 0 bytes room)
+    (drops s bytes room)
+
+-- THE CALLER'S BYTES
+
+-- those past the first `used`, moved to the front
+unfoldable pub kept : ℕ → List ℕ → List ℕ
+kept used bytes = drop used bytes ++ drop (length (drop used bytes)) bytes

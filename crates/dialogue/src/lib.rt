@@ -1,0 +1,173 @@
+// A dialogue with the desk over a stream of bytes: the opening, then requests, in pieces of any size. What is unfinished is
+// left with the caller, who gives it again with what follows it; so a dialogue needs no bytes of its own.
+
+ghost use mathlib.Core.Path.{_≡_};
+ghost use mathlib.Core.Bool.{true, cond};
+ghost use Prim.Native.Nat.{_≤_, _<_};
+ghost use lib.ListN.{length, drop};
+ghost use lib.Dec.{ltb};
+ghost use Rattle.dialogue.specs.Dialogue.{announced, decided, refusal, started, ended, serves, opens, fed, kept};
+use desk::turn;
+use house::House;
+use house::Reply;
+use opening::open;
+use wire::encode;
+
+// Before the levels came, after them, and after a refused opening, with its number.
+pub enum Stage {
+    Waiting,
+    Open,
+    Refused(u8),
+}
+
+pub struct Dialogue {
+    pub stage: Stage,
+    pub house: House,
+}
+
+// The next dialogue, how many bytes it used, and how many reply bytes were written.
+pub struct Fed {
+    pub dialogue: Dialogue,
+    pub used: usize,
+    pub written: usize,
+}
+
+pub fn start() -> Dialogue
+    ensures { λ r. ⌜ r ≡ started ⌝ }
+{
+    let opening = open(b"");
+    let house = opening.house;
+    Dialogue {
+        stage: Stage::Waiting,
+        house,
+    }
+}
+
+// The stage at the end of the input.
+pub fn finish(stage: Stage) -> Stage
+    ensures { λ r. ⌜ r ≡ ended stage ⌝ }
+{
+    match stage {
+        Stage::Waiting => Stage::Refused(13),
+        Stage::Open => Stage::Open,
+        Stage::Refused(number) => Stage::Refused(number),
+    }
+}
+
+pub fn refuse(number: u8) -> [u8; 16]
+    ensures { λ r. ⌜ r ≡ refusal number ⌝ }
+{
+    encode(Reply {
+        number,
+        operation: 0,
+        item: 0,
+        ticket: 0,
+        value: 0,
+        version: 0,
+    })
+}
+
+fn first(bytes: &[u8]) -> usize
+    ensures { λ r. ⌜ (r ≡ announced (now (bytes .entry))) × (r < 256) ⌝ }
+{
+    if bytes.len() == 0 {
+        return 0;
+    }
+    bytes[0] as usize
+}
+
+fn is_decided(bytes: &[u8]) -> bool
+    ensures { λ r. ⌜ r ≡ decided (now (bytes .entry)) ⌝ }
+{
+    let n = first(bytes);
+    (n < bytes.len()) | (64 < n)
+}
+
+// The requests past the first k bytes.
+fn serve(h: House, k: usize, bytes: &[u8], replies: &mut [u8]) -> Fed
+    requires { ⌜ k ≤ length (now bytes) ⌝ }
+    ensures { λ r. ⌜ (r, now (replies .exit)) ≡ serves h k (now (bytes .entry)) (now (replies .entry)) ⌝ }
+{
+    let t = turn(h, &bytes[k..], replies, bytes.len());
+    let house = t.house;
+    let count = t.count;
+    Fed {
+        dialogue: Dialogue {
+            stage: Stage::Open,
+            house,
+        },
+        used: k + count * 12,
+        written: count * 16,
+    }
+}
+
+// A number above 64 is opened as no levels, which gets 13 as well.
+fn level_count(n: usize) -> usize
+    ensures { λ r. ⌜ r ≡ cond (ltb 64 n) 0 n ⌝ }
+{
+    if 64 < n { 0 } else { n }
+}
+
+fn open_and_serve(bytes: &[u8], replies: &mut [u8]) -> Fed
+    requires { ⌜ decided (now bytes) ≡ true ⌝ }
+    ensures { λ r. ⌜ (r, now (replies .exit)) ≡ opens (now (bytes .entry)) (now (replies .entry)) ⌝ }
+{
+    let n = first(bytes);
+    let end = level_count(n) + 1;
+    let opening = open(&bytes[1..end]);
+    let number = opening.number;
+    let house = opening.house;
+    if number == 0 {
+        return serve(house, n + 1, bytes, replies);
+    }
+    Fed {
+        dialogue: Dialogue {
+            stage: Stage::Refused(number),
+            house,
+        },
+        used: bytes.len(),
+        written: 0,
+    }
+}
+
+// Takes the bytes that came, those not used before among them, and writes the replies.
+pub fn feed(s: Dialogue, bytes: &[u8], replies: &mut [u8]) -> Fed
+    ensures { λ r. ⌜ (r, now (replies .exit)) ≡ fed s (now (bytes .entry)) (now (replies .entry)) ⌝ }
+{
+    let stage = s.stage;
+    match stage {
+        Stage::Waiting => {
+            if is_decided(bytes) {
+                return open_and_serve(bytes, replies);
+            }
+            Fed {
+                dialogue: s,
+                used: 0,
+                written: 0,
+            }
+        }
+        Stage::Open => {
+            let house = s.house;
+            serve(house, 0, bytes, replies)
+        }
+        Stage::Refused(_) => Fed {
+            dialogue: s,
+            used: bytes.len(),
+            written: 0,
+        },
+    }
+}
+
+// Moves what was not used to the front, and says how much that is.
+pub fn keep(bytes: &mut [u8], used: usize) -> usize
+    ensures { λ r. ⌜ (r ≡ length (drop used (now (bytes .entry)))) × (now (bytes .exit) ≡ kept used (now (bytes .entry))) ⌝ }
+{
+    if bytes.len() <= used {
+        return 0;
+    }
+    let left = bytes.len() - used;
+    for k in 0..left {
+        bytes[k] = bytes[used + k];
+    }
+    left
+}
