@@ -1,6 +1,6 @@
 -- The ruling of a request and the change made of it are the step of the rules.
 -- Assumes nothing.
-use Prim.Native.Nat.{ℕ, _<_}
+use Prim.Native.Nat.{_<_}
 use mathlib.Core.Path.{_≡_, refl}
 use mathlib.Core.Logic.{inl, inr}
 use mathlib.Core.Bool.{true, false}
@@ -20,9 +20,6 @@ use Rattle.ruling.specs.declared.Change.{Change}
 use Rattle.ruling.specs.declared.Change.the-variants.{Nothing, Begin, Read, Write, Certify, End}
 use Rattle.ruling.specs.Ruling.{effect, fits, granted, ruled}
 
-below : (n m : ℕ) → n < m → ltb n m ≡ true
-below n m h = lt-ltb n m h
-
 module _ (h : House) (q : Request) (passed : verdict h q ≡ 0) where
   abbrev c : Clear h q
   c = clear h q passed
@@ -41,19 +38,19 @@ module _ (h : House) (q : Request) (passed : verdict h q ≡ 0) where
   begin-made b =
       let free = somebody (vacancy (h .places) (q .level)) (and-right-false (q does begin) _ b (c .roomy)) in
       let at = vacancy-at (h .places) (q .level) (free .0) (c .level) (free .1) in
-      rw (b, free .1) (refl, and-intro _ _ (below (q .level) 4 (c .level)) (below (free .0) 32 (at .within .place)))
+      rw (b, free .1) (refl, and-intro _ _ (lt-ltb (q .level) 4 (c .level)) (lt-ltb (free .0) 32 (at .within .place)))
 
   other-made : q does begin ≡ false → Made
   unfolding performed granted served
   other-made b =
       let who = asker-known h q (eqb-false _ 0 b) passed in
-      let me : ltb (who .0) 32 ≡ true = below _ 32 (seek-at (h .places) (q .level) (q .ticket) (who .0) (c .level) (who .1) .within .place) in
+      let me : ltb (who .0) 32 ≡ true = lt-ltb _ 32 (seek-at (h .places) (q .level) (q .ticket) (who .0) (c .level) (who .1) .within .place) in
       rw (b, who .1)
       (elim (is (q does read)) [
-        | inl r ↦ rw r (refl, and-intro _ _ me (below (q .item) 64 (item-below (or-left _ _ r))))
+        | inl r ↦ rw r (refl, and-intro _ _ me (lt-ltb (q .item) 64 (item-below (or-left _ _ r))))
         | inr nr ↦ rw nr
             (elim (is (q does write)) [
-              | inl w ↦ rw w (refl, and-intro _ _ me (below (q .item) 64 (item-below (or-right (q does read) _ w))))
+              | inl w ↦ rw w (refl, and-intro _ _ me (lt-ltb (q .item) 64 (item-below (or-right (q does read) _ w))))
               | inr nw ↦ rw nw
                   (elim (is (q does certify)) [
                     | inl y ↦ rw y (refl, me)
