@@ -11,9 +11,11 @@ use lib.Seq.{getD-take, getD-drop, drop-drop, take-at, paste, drop-append-add, p
 use Rattle.house.specs.declared.House.{House}
 use Rattle.house.specs.declared.Outcome.{Outcome}
 use Rattle.house.specs.declared.Reply.{Reply}
+use Rattle.house.specs.declared.Request.{Request}
 use Rattle.house.specs.Rules.{stepped}
 use Rattle.house.specs.Run.{finally, replies}
 use Rattle.house.proofs.Runs.{finally-append, replies-append}
+use Rattle.ruling.proofs.Steps.{stepped-cells}
 use Rattle.wire.specs.Wire.{requestAt, replyBytes}
 use Rattle.desk.specs.Turn.{requests, wired, share, written, housed, answered}
 
@@ -99,3 +101,9 @@ length-answered h input room most =
     let n = share most input room in
     length-append (wired (replies h (requests n input))) (drop (n * 16) room)
     ∙ rw (length-wired h n input, length-drop (n * 16) room) (omega (arith, share-fits most input room))
+
+-- the house of a turn keeps its cells as many as they were
+pub finally-cells : (h : House) → length (h .cells) ≡ 2048 → (qs : List Request) → length (finally h qs .cells) ≡ 2048
+unfolding finally
+finally-cells h z [] = z
+finally-cells h z (q ∷ qs) = finally-cells (stepped h q .house) (stepped-cells h z q) qs

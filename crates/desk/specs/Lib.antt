@@ -1,3 +1,2 @@
-pub mod Sweep
 pub mod Turn
 pub mod TwoTurns

@@ -1,13 +1,11 @@
 // The desk: one request by value (`step`), and a turn of many out of lent bytes (`turn`). Each request is judged over parts of
-// the house. Whoever has the house makes the change where it lies: a copy of the house costs more than most requests, so the
-// head, which shows the judge its parts, and the change stand in `step` and in `turn`.
+// the house. `step` has the change made by `perform`; `turn` makes it where the house lies, because a copy of the house costs
+// more than most requests.
 
 mod bytes;
-mod rows;
 mod running;
 mod single;
 mod stepping;
-mod sweeps;
 
 use house::House;
 pub use running::turn;

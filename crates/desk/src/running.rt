@@ -6,20 +6,20 @@ use crate::Served;
 use crate::bytes::least;
 use crate::bytes::put_reply;
 use crate::bytes::request_at;
-use crate::rows::active;
-use crate::rows::certified;
-use crate::rows::left_free;
-use crate::rows::with_pending;
-use crate::sweeps::certify_cells;
-use crate::sweeps::clear_cells;
-use crate::sweeps::end_items;
-use crate::sweeps::mark_cell;
 use house::House;
 use house::Mark;
 use judge::judge;
+use parts::active;
+use parts::certified;
+use parts::left_free;
 use parts::next_ticket;
 use parts::reply_to;
+use parts::with_pending;
 use ruling::Change;
+use sweeps::certify_cells;
+use sweeps::clear_cells;
+use sweeps::end_items;
+use sweeps::mark_cell;
 
 pub fn turn(h: House, requests: &[u8], replies: &mut [u8], most: usize) -> Served
     ensures { λ r. ⌜ (r ≡ turned h (now (requests .entry)) (now (replies .entry)) most)

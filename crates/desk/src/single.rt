@@ -1,25 +1,16 @@
-// One request, by value.
+// One request, by value. A refusal or a delay hands back the house that came.
 
 ghost use mathlib.Core.Path.{_≡_};
 ghost use Rattle.house.specs.Rules.{stepped};
-use crate::rows::active;
-use crate::rows::certified;
-use crate::rows::left_free;
-use crate::rows::with_pending;
-use crate::sweeps::certify_cells;
-use crate::sweeps::clear_cells;
-use crate::sweeps::end_items;
-use crate::sweeps::mark_cell;
 use house::House;
-use house::Mark;
 use house::Outcome;
 use house::Request;
 use judge::judge;
-use parts::next_ticket;
 use parts::reply_to;
+use perform::perform;
 use ruling::Change;
 
-pub fn step(mut h: House, q: Request) -> Outcome
+pub fn step(h: House, q: Request) -> Outcome
     ensures { λ r. ⌜ r ≡ stepped h q ⌝ }
 {
     let level = (q.level % 4) as usize;
@@ -40,31 +31,11 @@ pub fn step(mut h: House, q: Request) -> Outcome
     let answer = ruling.answer;
     let reply = reply_to(q, answer);
     let change = ruling.change;
-    match change {
-        Change::Nothing => {}
-        Change::Begin(l, me) => {
-            let t = h.next[l];
-            h.places[me] = active(t);
-            h.next[l] = next_ticket(t);
-        }
-        Change::Read(me, i) => mark_cell(&mut h.cells, Mark::Read, me, i),
-        Change::Write(me, i, value) => {
-            mark_cell(&mut h.cells, Mark::Write, me, i);
-            let row = h.items[i];
-            h.items[i] = with_pending(row, value);
-        }
-        Change::Certify(me) => {
-            certify_cells(&mut h.cells, me);
-            let place = h.places[me];
-            h.places[me] = certified(place);
-        }
-        Change::End(me, commits) => {
-            let items = h.items;
-            let ended = end_items(items, &h.cells, me, commits);
-            h.items = ended;
-            clear_cells(&mut h.cells, me);
-            h.places[me] = left_free();
-        }
+    if let Change::Nothing = change {
+        return Outcome { house: h, reply };
     }
-    Outcome { house: h, reply }
+    Outcome {
+        house: perform(h, change),
+        reply,
+    }
 }

@@ -4,12 +4,14 @@ use Prim.Native.Nat.{ℕ, zero, suc, _+_, _<_, _≤_}
 use native.Mathlib.Omega.{arith}
 use native.Mathlib.Nat.{add-zero, zero-add}
 use mathlib.Core.Logic.{_≢_, inl, inr}
-use mathlib.Core.Path.{_≡_, refl, sym, ap, _∙_}
+use mathlib.Core.Path.{_≡_, refl, sym, ap, ap₂, _∙_}
 use mathlib.Core.List.{List, [], _∷_}
-use lib.ListN.{length, getD, set, length-set}
+use lib.ListN.{length, getD, set, length-set, List·getD-eq-default}
+use lib.Dec.{ltb}
 use lib.Seq.{ext-getD, getD-set-same, getD-set-other}
+use borrow.Author.Tests.{ltb-true, ltb-false}
 use Rattle.house.specs.Search.{mapFrom}
-use Rattle.house.proofs.Tests.{same}
+use Rattle.house.proofs.Tests.{is, same}
 
 module _ {A : Type 0} where
   pub length-mapFrom : (k : ℕ) (f : ℕ → A → A) (l : List A) → length (mapFrom k f l) ≡ length l
@@ -25,6 +27,11 @@ module _ {A : Type 0} where
 
   pub getD-mapFrom : (f : ℕ → A → A) (l : List A) (n : ℕ) (d : A) → n < length l → getD (mapFrom 0 f l) n d ≡ f n (getD l n d)
   getD-mapFrom f l n d h = from-k 0 f l n d h ∙ rw zero-add
+
+  pub mapFrom-same : (k : ℕ) (f g : ℕ → A → A) (l : List A) → ((n : ℕ) (x : A) → n < k + length l → f n x ≡ g n x) → mapFrom k f l ≡ mapFrom k g l
+  unfolding mapFrom
+  mapFrom-same k f g [] e = refl
+  mapFrom-same k f g (x ∷ xs) e = ap₂ _∷_ (e k x (omega arith)) (mapFrom-same (suc k) f g xs (λ n y h. e n y (omega arith)))
 
 -- the elements whose key is below i have been through f; key n is the round of the loop that handles element n
 pub record Sofar {A : Type 0} (d : A) (key : ℕ → ℕ) (f : ℕ → A → A) (i : ℕ) (l out : List A) : Type 0 where
@@ -74,7 +81,26 @@ module _ {A : Type 0} (d : A) (key : ℕ → ℕ) (f : ℕ → A → A) where
       at : (n : ℕ) → n < length l → getD (mapFrom 0 g out) n d ≡ g n (getD out n d)
       at n h = getD-mapFrom g out n d (omega (arith, s .long))
 
-  pub sofar-all : (N : ℕ) {l out : List A} → Sofar d key f N l out → ((n : ℕ) → n < length l → key n < N) → out ≡ mapFrom 0 f l
-  sofar-all N {l} {out} s all =
+  -- the rest is as it was, past the end too
+  pub sofar-still : (i : ℕ) {l out : List A} → Sofar d key f i l out → (n : ℕ) → i ≤ key n → getD out n d ≡ getD l n d
+  sofar-still i {l} {out} s n k =
+      elim (is (ltb n (length l))) [
+        | inl h ↦ s .rest n (ltb-true n (length l) h) k
+        | inr h ↦ let past = ltb-false n (length l) h in List·getD-eq-default out d (omega (arith, s .long)) ∙ sym (List·getD-eq-default l d past)
+      ]
+
+  -- N rounds are all, where f changes nothing of a later key
+  pub sofar-end : (N : ℕ) {l out : List A} → Sofar d key f N l out → ((n : ℕ) → n < length l → N ≤ key n → f n (getD l n d) ≡ getD l n d) → out ≡ mapFrom 0 f l
+  sofar-end N {l} {out} s kept =
       ext-getD d out (mapFrom 0 f l) (s .long ∙ sym (length-mapFrom 0 f l))
-      (λ n h. let hl : n < length l = omega (arith, s .long) in s .done n hl (all n hl) ∙ sym (getD-mapFrom f l n d hl))
+      (λ n h. let hl : n < length l = omega (arith, s .long) in at n hl ∙ sym (getD-mapFrom f l n d hl))
+    where
+      at : (n : ℕ) → n < length l → getD out n d ≡ f n (getD l n d)
+      at n h =
+          elim (is (ltb (key n) N)) [
+            | inl k ↦ s .done n h (ltb-true (key n) N k)
+            | inr k ↦ let past = ltb-false (key n) N k in s .rest n h past ∙ sym (kept n h past)
+          ]
+
+  pub sofar-all : (N : ℕ) {l out : List A} → Sofar d key f N l out → ((n : ℕ) → n < length l → key n < N) → out ≡ mapFrom 0 f l
+  sofar-all N s all = sofar-end N s (λ n h k. absurd (omega (arith, all n h)))

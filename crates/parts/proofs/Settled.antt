@@ -24,6 +24,18 @@ use Rattle.parts.proofs.next_ticket.Reads as next-ticket-reads
 use Rattle.parts.proofs.reply_to as reply-to
 use Rattle.parts.proofs.reply_to.Kinds as reply-to-kinds
 use Rattle.parts.proofs.reply_to.Reads as reply-to-reads
+use Rattle.parts.proofs.rows.active as active
+use Rattle.parts.proofs.rows.active.Kinds as active-kinds
+use Rattle.parts.proofs.rows.active.Reads as active-reads
+use Rattle.parts.proofs.rows.certified as certified
+use Rattle.parts.proofs.rows.certified.Kinds as certified-kinds
+use Rattle.parts.proofs.rows.certified.Reads as certified-reads
+use Rattle.parts.proofs.rows.left_free as left-free
+use Rattle.parts.proofs.rows.left_free.Kinds as left-free-kinds
+use Rattle.parts.proofs.rows.left_free.Reads as left-free-reads
+use Rattle.parts.proofs.rows.with_pending as with-pending
+use Rattle.parts.proofs.rows.with_pending.Kinds as with-pending-kinds
+use Rattle.parts.proofs.rows.with_pending.Reads as with-pending-reads
 
 pub has-mark-settled : (κs : Lifetimes.Lfts 0) (a : World.ArgsD has-mark.signature κs) (r r′ : World.ResD has-mark.signature κs) (s s′ : Clauses.AtExit (Kinds'.endedOf 0 has-mark-kinds.ps has-mark-kinds.r) κs) → has-mark-reads.Post κs a r s → has-mark-reads.Post κs a r′ s′ → r ≡ r′
 has-mark-settled κs a r r′ s s′ p q = p ∙ sym q
@@ -42,3 +54,15 @@ next-ticket-settled κs a r r′ s s′ p q = p ∙ sym q
 
 pub reply-to-settled : (κs : Lifetimes.Lfts 0) (a : World.ArgsD reply-to.signature κs) (r r′ : World.ResD reply-to.signature κs) (s s′ : Clauses.AtExit (Kinds'.endedOf 0 reply-to-kinds.ps reply-to-kinds.r) κs) → reply-to-reads.Post κs a r s → reply-to-reads.Post κs a r′ s′ → r ≡ r′
 reply-to-settled κs a r r′ s s′ p q = p ∙ sym q
+
+pub active-settled : (κs : Lifetimes.Lfts 0) (a : World.ArgsD active.signature κs) (r r′ : World.ResD active.signature κs) (s s′ : Clauses.AtExit (Kinds'.endedOf 0 active-kinds.ps active-kinds.r) κs) → active-reads.Post κs a r s → active-reads.Post κs a r′ s′ → r ≡ r′
+active-settled κs a r r′ s s′ p q = p ∙ sym q
+
+pub certified-settled : (κs : Lifetimes.Lfts 0) (a : World.ArgsD certified.signature κs) (r r′ : World.ResD certified.signature κs) (s s′ : Clauses.AtExit (Kinds'.endedOf 0 certified-kinds.ps certified-kinds.r) κs) → certified-reads.Post κs a r s → certified-reads.Post κs a r′ s′ → r ≡ r′
+certified-settled κs a r r′ s s′ p q = p ∙ sym q
+
+pub left-free-settled : (κs : Lifetimes.Lfts 0) (a : World.ArgsD left-free.signature κs) (r r′ : World.ResD left-free.signature κs) (s s′ : Clauses.AtExit (Kinds'.endedOf 0 left-free-kinds.ps left-free-kinds.r) κs) → left-free-reads.Post κs a r s → left-free-reads.Post κs a r′ s′ → r ≡ r′
+left-free-settled κs a r r′ s s′ p q = p ∙ sym q
+
+pub with-pending-settled : (κs : Lifetimes.Lfts 0) (a : World.ArgsD with-pending.signature κs) (r r′ : World.ResD with-pending.signature κs) (s s′ : Clauses.AtExit (Kinds'.endedOf 0 with-pending-kinds.ps with-pending-kinds.r) κs) → with-pending-reads.Post κs a r s → with-pending-reads.Post κs a r′ s′ → r ≡ r′
+with-pending-settled κs a r r′ s s′ p q = p ∙ sym q

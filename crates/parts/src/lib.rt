@@ -1,5 +1,7 @@
-// What is done with single parts of a house: the marks of one lock cell, a version, a ticket; and the reply to a request.
+// What is done with single parts of a house: the marks of one lock cell, a version, a ticket, a row; and the reply to a request.
 // One function serves all four marks; above this crate nobody divides.
+
+mod rows;
 
 ghost use mathlib.Core.Path.{_≡_};
 ghost use Rattle.house.specs.Cell.{weight, has, marked, unmarked};
@@ -8,6 +10,10 @@ use house::Answer;
 use house::Mark;
 use house::Reply;
 use house::Request;
+pub use rows::active;
+pub use rows::certified;
+pub use rows::left_free;
+pub use rows::with_pending;
 
 fn weigh(m: Mark) -> u8
     ensures { λ r. ⌜ r ≡ weight m ⌝ }

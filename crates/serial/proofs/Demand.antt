@@ -1,6 +1,6 @@
 -- Demand 3: from the past, the newest event first, to the trace in the order of time.
 -- Assumes nothing.
-use Prim.Native.Nat.{ℕ, suc, _+_}
+use Prim.Native.Nat.{ℕ, _+_}
 use mathlib.Core.Path.{_≡_, refl, sym, ap, ap₂, _∙_}
 use mathlib.Core.Logic.{inl, inr}
 use mathlib.Core.Bool.{true, false, cond}
@@ -9,10 +9,10 @@ use lib.ListN.{getD}
 use lib.Dec.{eqb}
 use Rattle.house.specs.declared.House.{House}
 use Rattle.house.specs.declared.Request.{Request}
-use Rattle.house.specs.Search.{mapFrom}
 use Rattle.house.specs.Rules.{commit, stepped}
 use Rattle.house.specs.Opening.{opened, opening}
 use Rattle.house.proofs.Tests.{is, clash}
+use Rattle.house.proofs.Lists.{mapFrom-same}
 use Rattle.house.proofs.Openings.{opened-sizes, opened-place, opened-cell}
 use Rattle.house.specs.Run.{finally}
 use Rattle.reach.proofs.Law.{clear-law}
@@ -116,14 +116,9 @@ run-reverse t (e ∷ own) es r =
           ∙ sym (append-assoc (answers (reverse own)) (answer e ∷ []) (run t (written own) es .0))))
     ]
 
-mapFrom-same : (k : ℕ) (f g : ℕ → Row → Row) (t : Table) → ((i : ℕ) (r : Row) → f i r ≡ g i r) → mapFrom k f t ≡ mapFrom k g t
-unfolding mapFrom
-mapFrom-same k f g [] e = refl
-mapFrom-same k f g (x ∷ t) e = ap₂ _∷_ (e k x) (mapFrom-same (suc k) f g t e)
-
 run-alone : (t : Table) (own : Past) → Repeats t own → run t [] (reverse own) ≡ (answers (reverse own), alone own t)
 unfolding run alone
-run-alone t own r = run-reverse t own [] r ∙ ap₂ (λ a b. (a, b)) (append-nil (answers (reverse own))) (mapFrom-same 0 (look (written own)) (shown own) t (look-shown own))
+run-alone t own r = run-reverse t own [] r ∙ ap₂ (λ a b. (a, b)) (append-nil (answers (reverse own))) (mapFrom-same 0 (look (written own)) (shown own) t (λ i r h. look-shown own i r))
 
 -- One transaction more
 

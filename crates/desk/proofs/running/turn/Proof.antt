@@ -6,6 +6,7 @@ use mathlib.Core.Path.{_≡_, refl, sym, ap, _∙_}
 use lib.ListN.{length}
 use borrow.Author.Needs.{needs}
 use borrow.Author.Tests.{ltb-true}
+use Rattle.house.proofs.Tests.{both-below}
 use Rattle.house.specs.Rules.{outcome, begun, readBy, writtenBy, certifiedBy, left}
 use Rattle.house.specs.Run.{finally, replies}
 use Rattle.house.specs.declared.House.{House}
@@ -14,8 +15,8 @@ use Rattle.ruling.proofs.Steps.{ruled-steps, ruled-fits}
 use Rattle.ruling.specs.Judged.{Judged}
 use Rattle.ruling.specs.Ruling.{fits, effect, ruled}
 use Rattle.ruling.specs.declared.Change.{Change}
-use Rattle.desk.proofs.Laws.{next, housed-next, written-next}
-use Rattle.desk.proofs.Rounds.{both-below, finally-cells}
+use Rattle.sweeps.proofs.Whole.{marked-whole, swept-whole, ended-whole}
+use Rattle.desk.proofs.Laws.{next, housed-next, written-next, finally-cells}
 use Rattle.desk.proofs.running.turn.Statement.{statement}
 use Rattle.desk.proofs.running.turn.Tie as tie
 use Rattle.desk.specs.Turn.{requests, wired, share, housed, written, turned, answered}
@@ -270,20 +271,20 @@ enum-known-change-2 : tie.Need-enum-known-change-2 Inv-loop μ-loop
 enum-known-change-2 c = search needs
 
 mark-cell-requires : tie.Need-mark-cell-requires Inv-loop μ-loop
-mark-cell-requires c κs = read-there (c .before .before)
+mark-cell-requires c κs = search needs
 
 loop-less-3 : tie.Need-loop-less-3 Inv-loop μ-loop
 loop-less-3 c = less (c .before .before .before .before .before)
 
 loop-again-3 : tie.Need-loop-again-3 Inv-loop μ-loop
 unfolding readBy
-loop-again-3 c = let s = c .before .before .before .before .before in (more s, long-as-lent s, rw (← made s _ (c .before .before .before .change2 .given .1), c .mark-cell .ensures), wrote s)
+loop-again-3 c = let s = c .before .before .before .before .before in (more s, long-as-lent s, rw (← made s _ (c .before .before .before .change2 .given .1), c .mark-cell .ensures, marked-whole _ _ _ _ (read-there (c .before .before .before) .0) (read-there (c .before .before .before) .1)), wrote s)
 
 enum-known-change-3 : tie.Need-enum-known-change-3 Inv-loop μ-loop
 enum-known-change-3 c = search needs
 
 mark-cell-requires-2 : tie.Need-mark-cell-requires-2 Inv-loop μ-loop
-mark-cell-requires-2 c κs = writes (c .before .before)
+mark-cell-requires-2 c κs = search needs
 
 mul-row : tie.Need-mul-row Inv-loop μ-loop
 mul-row c = let k = writes (c .before .before .before) in omega arith
@@ -305,13 +306,13 @@ loop-less-4 c = less (c .before .before .before .before .before .before .before)
 
 loop-again-4 : tie.Need-loop-again-4 Inv-loop μ-loop
 unfolding writtenBy
-loop-again-4 c = let s = c .before .before .before .before .before .before .before in (more s, long-as-lent s, rw (← made s _ (c .before .before .before .before .before .change3 .given .1), c .before .before .mark-cell2 .ensures, c .with-pending .ensures), wrote s)
+loop-again-4 c = let s = c .before .before .before .before .before .before .before in (more s, long-as-lent s, rw (← made s _ (c .before .before .before .before .before .change3 .given .1), c .before .before .mark-cell2 .ensures, marked-whole _ _ _ _ (writes (c .before .before .before .before .before) .0) (writes (c .before .before .before .before .before) .1), c .with-pending .ensures), wrote s)
 
 enum-known-change-4 : tie.Need-enum-known-change-4 Inv-loop μ-loop
 enum-known-change-4 c = search needs
 
 certify-cells-requires : tie.Need-certify-cells-requires Inv-loop μ-loop
-certify-cells-requires c κs = (certifies (c .before .before), long (c .before .before .before .before))
+certify-cells-requires c κs = search needs
 
 mul-place : tie.Need-mul-place Inv-loop μ-loop
 mul-place c = omega (arith, certifies (c .before .before .before))
@@ -333,16 +334,16 @@ loop-less-5 c = less (c .before .before .before .before .before .before .before)
 
 loop-again-5 : tie.Need-loop-again-5 Inv-loop μ-loop
 unfolding certifiedBy
-loop-again-5 c = let s = c .before .before .before .before .before .before .before in (more s, long-as-lent s, rw (← made s _ (c .before .before .before .before .before .change4 .given .1), c .before .before .certify-cells .ensures, c .certified .ensures), wrote s)
+loop-again-5 c = let s = c .before .before .before .before .before .before .before in (more s, long-as-lent s, rw (← made s _ (c .before .before .before .before .before .change4 .given .1), c .before .before .certify-cells .ensures, swept-whole _ _ _ (certifies (c .before .before .before .before .before)) (long s), c .certified .ensures), wrote s)
 
 enum-known-change-5 : tie.Need-enum-known-change-5 Inv-loop μ-loop
 enum-known-change-5 c = search needs
 
 end-items-requires : tie.Need-end-items-requires Inv-loop μ-loop
-end-items-requires c κs = omega (arith, ends (c .before .before .before .before))
+end-items-requires c κs = search needs
 
 clear-cells-requires : tie.Need-clear-cells-requires Inv-loop μ-loop
-clear-cells-requires c κs = (ends (c .before .before .before .before .before .before), long (c .before .before .before .before .before .before .before .before))
+clear-cells-requires c κs = search needs
 
 left-free-requires : tie.Need-left-free-requires Inv-loop μ-loop
 left-free-requires c κs = search needs
@@ -358,7 +359,7 @@ loop-less-6 c = less (c .before .before .before .before .before .before .before 
 
 loop-again-6 : tie.Need-loop-again-6 Inv-loop μ-loop
 unfolding left
-loop-again-6 c = let s = c .before .before .before .before .before .before .before .before .before .before in (more s, long-as-lent s, rw (← made s _ (c .before .before .before .before .before .before .before .before .change5 .given .1), c .before .before .before .end-items .ensures, c .before .clear-cells .ensures, c .left-free .ensures), wrote s)
+loop-again-6 c = let s = c .before .before .before .before .before .before .before .before .before .before in (more s, long-as-lent s, rw (← made s _ (c .before .before .before .before .before .before .before .before .change5 .given .1), c .before .before .before .end-items .ensures, ended-whole _ _ _ _ (ends (c .before .before .before .before .before .before .before .before)), c .before .clear-cells .ensures, swept-whole _ _ _ (ends (c .before .before .before .before .before .before .before .before)) (long s), c .left-free .ensures), wrote s)
 
 same-length : tie.Need-same-length Inv-loop μ-loop
 same-length c = search needs

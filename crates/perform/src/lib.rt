@@ -1,0 +1,67 @@
+// The change that goes with a ruling, made of a house that is given and handed back. It is made for done requests only, and only
+// where a house has the level, the place and the item that it names.
+
+ghost use mathlib.Core.Path.{_≡_};
+ghost use Rattle.ruling.specs.Ruling.{fits};
+ghost use Rattle.perform.specs.Perform.{performed};
+use house::House;
+use house::Mark;
+use parts::active;
+use parts::certified;
+use parts::left_free;
+use parts::next_ticket;
+use parts::with_pending;
+use ruling::Change;
+use sweeps::certify_cells;
+use sweeps::clear_cells;
+use sweeps::end_items;
+use sweeps::mark_cell;
+
+fn is_fit(change: Change) -> bool
+    ensures { λ r. ⌜ r ≡ fits change ⌝ }
+{
+    match change {
+        Change::Nothing => true,
+        Change::Begin(l, me) => (l < 4) & (me < 32),
+        Change::Read(me, i) => (me < 32) & (i < 64),
+        Change::Write(me, i, _) => (me < 32) & (i < 64),
+        Change::Certify(me) => me < 32,
+        Change::End(me, _) => me < 32,
+    }
+}
+
+pub fn perform(h: House, change: Change) -> House
+    ensures { λ r. ⌜ r ≡ performed h change ⌝ }
+{
+    if !is_fit(change) {
+        return h;
+    }
+    let mut h = h;
+    match change {
+        Change::Nothing => {}
+        Change::Begin(l, me) => {
+            let t = h.next[l];
+            h.places[me] = active(t);
+            h.next[l] = next_ticket(t);
+        }
+        Change::Read(me, i) => mark_cell(&mut h.cells, Mark::Read, me, i),
+        Change::Write(me, i, value) => {
+            mark_cell(&mut h.cells, Mark::Write, me, i);
+            let row = h.items[i];
+            h.items[i] = with_pending(row, value);
+        }
+        Change::Certify(me) => {
+            certify_cells(&mut h.cells, me);
+            let place = h.places[me];
+            h.places[me] = certified(place);
+        }
+        Change::End(me, commits) => {
+            let items = h.items;
+            let ended = end_items(items, &h.cells, me, commits);
+            h.items = ended;
+            clear_cells(&mut h.cells, me);
+            h.places[me] = left_free();
+        }
+    }
+    h
+}

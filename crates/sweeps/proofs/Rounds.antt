@@ -1,0 +1,90 @@
+-- What a sweep does to the one cell of a round, and to all others.
+-- Assumes nothing.
+use Prim.Native.Nat.{ℕ, _+_, _*_, _/_, _%_, _<_, _≤_}
+use native.Mathlib.Omega.{arith}
+use mathlib.Core.Path.{_≡_, refl}
+use mathlib.Core.Logic.{_≢_, inl, inr}
+use mathlib.Core.Bool.{Bool, true, false, _||_}
+use mathlib.Core.List.{List}
+use lib.ListN.{getD}
+use lib.Dec.{ltb}
+use borrow.Author.Tests.{eq-eqb, ne-eqb, lt-ltb, le-ltb}
+use Rattle.house.specs.declared.Item.{Item}
+use Rattle.house.specs.declared.Mark.the-variants.{Write, Certify}
+use Rattle.house.specs.Cell.{has, cellAt, holds, mapCells}
+use Rattle.house.specs.Rules.{certifiedCell, clearedCell, committedItem, abortedItem}
+use Rattle.house.proofs.Tests.{is, or-false}
+use Rattle.house.proofs.Lists.{Sofar, sofar-skip, sofar-map, sofar-still}
+use Rattle.house.proofs.Cells.{place-of, item-of}
+use Rattle.ruling.specs.Ruling.{endedItem}
+use Rattle.sweeps.specs.Sweep.{ofHouse, convertedCell, convertedOn}
+
+-- the n-th cell through f, if it is of a place that a house has
+abbrev pub cellwise : (ℕ → ℕ → ℕ → ℕ) → ℕ → ℕ → ℕ
+cellwise f n c = ofHouse f (n / 64) (n % 64) c
+
+pub beyond : (f : ℕ → ℕ → ℕ → ℕ) (n c : ℕ) → 32 ≤ n / 64 → cellwise f n c ≡ c
+unfolding ofHouse
+beyond f n c h = rw (le-ltb (n / 64) 32 h)
+
+pub within : (f : ℕ → ℕ → ℕ → ℕ) (n c : ℕ) → n / 64 < 32 → cellwise f n c ≡ f (n / 64) (n % 64) c
+unfolding ofHouse
+within f n c h = rw (lt-ltb (n / 64) 32 h)
+
+-- where f changes nothing, nothing changes
+kept : (f : ℕ → ℕ → ℕ → ℕ) (n c : ℕ) → f (n / 64) (n % 64) c ≡ c → cellwise f n c ≡ c
+unfolding ofHouse
+kept f n c e = elim (is (ltb (n / 64) 32)) [ inl h ↦ rw h e | inr h ↦ rw h ]
+
+-- Converting one item: round p handles the cells of place p
+
+pub converted-mine : (me i p c : ℕ) → p < 32 → i < 64 → convertedCell me p c ≡ cellwise (convertedOn me i) (p * 64 + i) c
+unfolding ofHouse convertedOn
+converted-mine me i p c h a = rw (place-of p i a, item-of p i a, eq-eqb i i refl, lt-ltb p 32 h)
+
+pub converted-other : (me i p n c : ℕ) → n / 64 ≡ p → n ≢ p * 64 + i → cellwise (convertedOn me i) n c ≡ c
+unfolding convertedOn
+converted-other me i p n c e d = kept (convertedOn me i) n c (rw (ne-eqb (n % 64) i (λ k. d (omega arith))))
+
+-- Clearing a place: round i handles the cells of item i
+
+pub cleared-mine : (me i c : ℕ) → me < 32 → i < 64 → 0 ≡ cellwise (clearedCell me) (me * 64 + i) c
+unfolding ofHouse clearedCell
+cleared-mine me i c h a = rw (place-of me i a, eq-eqb me me refl, lt-ltb me 32 h)
+
+pub cleared-other : (me i n c : ℕ) → n % 64 ≡ i → n ≢ me * 64 + i → cellwise (clearedCell me) n c ≡ c
+unfolding clearedCell
+cleared-other me i n c e d = kept (clearedCell me) n c (rw (ne-eqb (n / 64) me (λ k. d (omega arith))))
+
+-- Certifying: round i handles the cells of item i, all at once if the item is written
+
+module _ (old : List ℕ) (me i : ℕ) (b : i < 64) {cells : List ℕ} (s : Sofar 0 (λ n. n % 64) (cellwise (certifiedCell old me)) i old cells) where
+  -- the cell that says whether the item is written has not been reached
+  still : getD cells (me * 64 + i) 0 ≡ getD old (me * 64 + i) 0
+  still = sofar-still _ _ _ _ s (me * 64 + i) (omega arith)
+
+  written-on : (n x : ℕ) → has Write (getD cells (me * 64 + i) 0) ≡ true → n % 64 ≡ i → cellwise (convertedOn me i) n x ≡ cellwise (certifiedCell old me) n x
+  unfolding ofHouse convertedOn convertedCell certifiedCell holds cellAt
+  written-on n x w e = let here : has Write (getD old (me * 64 + i) 0) ≡ true = rw still at w in rw (e, eq-eqb i i refl, here)
+
+  unwritten : (n x : ℕ) → has Write (getD cells (me * 64 + i) 0) ≡ false → n % 64 ≡ i → cellwise (certifiedCell old me) n x ≡ x
+  unfolding certifiedCell holds cellAt
+  unwritten n x w e = let here : has Write (getD old (me * 64 + i) 0) ≡ false = rw still at w in kept (certifiedCell old me) n x (rw (e, here))
+
+  elsewhere : (n x : ℕ) → n % 64 ≢ i → cellwise (convertedOn me i) n x ≡ x
+  unfolding convertedOn
+  elsewhere n x d = kept (convertedOn me i) n x (rw (ne-eqb (n % 64) i d))
+
+  pub certified-item : has Write (getD cells (me * 64 + i) 0) ≡ true → Sofar 0 (λ n. n % 64) (cellwise (certifiedCell old me)) (i + 1) old (mapCells (ofHouse (convertedOn me i)) cells)
+  unfolding mapCells
+  certified-item w = sofar-map 0 (λ n. n % 64) (cellwise (certifiedCell old me)) i _ s (λ n x e. written-on n x w e) elsewhere
+
+  pub passed-item : has Write (getD cells (me * 64 + i) 0) ≡ false → Sofar 0 (λ n. n % 64) (cellwise (certifiedCell old me)) (i + 1) old cells
+  passed-item w = sofar-skip 0 (λ n. n % 64) (cellwise (certifiedCell old me)) i s (λ n h e. unwritten n _ w e)
+
+-- Ending: a row that was not written stays
+
+pub ended-unwritten : (commits : Bool) (cells : List ℕ) (me i : ℕ) (x : Item) → (holds cells Write me i || holds cells Certify me i) ≡ false → endedItem commits cells me i x ≡ x
+unfolding committedItem abortedItem
+ended-unwritten true cells me i x e = rw (or-false (holds cells Write me i) (holds cells Certify me i) e .1)
+ended-unwritten false cells me i x e = rw e
