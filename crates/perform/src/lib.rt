@@ -2,8 +2,7 @@
 // where a house has the level, the place and the item that it names.
 
 ghost use mathlib.Core.Path.{_≡_};
-ghost use Rattle.ruling.specs.Ruling.{fits};
-ghost use Rattle.perform.specs.Perform.{performed};
+ghost use Rattle.ruling.specs.Ruling.{fits, effectIfFit};
 use house::House;
 use house::Mark;
 use parts::active;
@@ -31,7 +30,7 @@ fn is_fit(change: Change) -> bool
 }
 
 pub fn perform(h: House, change: Change) -> House
-    ensures { λ r. ⌜ r ≡ performed h change ⌝ }
+    ensures { λ r. ⌜ r ≡ effectIfFit h change ⌝ }
 {
     if !is_fit(change) {
         return h;

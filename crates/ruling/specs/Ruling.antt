@@ -40,6 +40,10 @@ fits (Write me i v) = ltb me 32 && ltb i 64
 fits (Certify me) = ltb me 32
 fits (End me commits) = ltb me 32
 
+-- any other leaves the house as it was
+unfoldable pub effectIfFit : House → Change → House
+effectIfFit h change = cond (fits change) (effect h change) h
+
 abbrev pub refusal : ℕ → Ruling
 refusal n = record { answer = Refused n; change = Nothing }
 

@@ -7,9 +7,8 @@ use borrow.Author.Tests.{ltb-true, not-true, not-false}
 use borrow.Author.Needs.{needs}
 use Rattle.house.proofs.Tests.{both-below}
 use Rattle.house.specs.Rules.{begun, readBy, writtenBy, certifiedBy, left}
-use Rattle.ruling.specs.Ruling.{fits, effect}
+use Rattle.ruling.specs.Ruling.{fits, effect, effectIfFit}
 use Rattle.sweeps.proofs.Whole.{marked-whole, swept-whole, ended-whole}
-use Rattle.perform.specs.Perform.{performed}
 use Rattle.perform.proofs.perform.Statement.{statement}
 use Rattle.perform.proofs.perform.Tie as tie
 
@@ -23,9 +22,9 @@ unfit c = sym (c .before .is-fit .ensures) ∙ not-true _ (c .if1 .taken)
 fit : (c : tie.Else1) → fits (c .before .before .args .change) ≡ true
 fit c = sym (c .before .is-fit .ensures) ∙ not-false _ (c .if1 .left)
 
-performing : (c : tie.Else1) → performed (c .before .before .args .h) (c .before .before .args .change) ≡ effect (c .before .before .args .h) (c .before .before .args .change)
-unfolding performed
-performing c = rw (fit c)
+fitting : (c : tie.Else1) → effectIfFit (c .before .before .args .h) (c .before .before .args .change) ≡ effect (c .before .before .args .h) (c .before .before .args .change)
+unfolding effectIfFit
+fitting c = rw (fit c)
 
 -- what the change names is there
 
@@ -48,7 +47,7 @@ is-fit-requires : tie.Need-is-fit-requires
 is-fit-requires c κs = search needs
 
 returns : tie.Need-returns
-unfolding performed
+unfolding effectIfFit
 returns c = rw (unfit c)
 
 enum-told : tie.Need-enum-told
@@ -148,27 +147,27 @@ element-set-from-h-4 : tie.Need-element-set-from-h-4
 element-set-from-h-4 c = let k = ends (c .before .before .before .before .before .before .before) in omega arith
 
 returns-2 : tie.Need-returns-2
-returns-2 c = rw (performing (c .before .before), c .enum-told .given .1)
+returns-2 c = rw (fitting (c .before .before), c .enum-told .given .1)
 
 returns-3 : tie.Need-returns-3
 unfolding begun
-returns-3 c = rw (performing (c .before .before .before .before .before .before), c .before .before .before .before .change .given .1, c .before .active .ensures, c .next-ticket .ensures)
+returns-3 c = rw (fitting (c .before .before .before .before .before .before), c .before .before .before .before .change .given .1, c .before .active .ensures, c .next-ticket .ensures)
 
 returns-4 : tie.Need-returns-4
 unfolding readBy
-returns-4 c = rw (performing (c .before .before .before .before .before), c .before .before .before .change2 .given .1, c .mark-cell .ensures, marked-whole _ _ _ _ (read-there (c .before .before) .0) (read-there (c .before .before) .1))
+returns-4 c = rw (fitting (c .before .before .before .before .before), c .before .before .before .change2 .given .1, c .mark-cell .ensures, marked-whole _ _ _ _ (read-there (c .before .before) .0) (read-there (c .before .before) .1))
 
 returns-5 : tie.Need-returns-5
 unfolding writtenBy
-returns-5 c = rw (performing (c .before .before .before .before .before .before .before), c .before .before .before .before .before .change3 .given .1, c .before .before .mark-cell2 .ensures, marked-whole _ _ _ _ (writes (c .before .before .before .before) .0) (writes (c .before .before .before .before) .1), c .with-pending .ensures)
+returns-5 c = rw (fitting (c .before .before .before .before .before .before .before), c .before .before .before .before .before .change3 .given .1, c .before .before .mark-cell2 .ensures, marked-whole _ _ _ _ (writes (c .before .before .before .before) .0) (writes (c .before .before .before .before) .1), c .with-pending .ensures)
 
 returns-6 : tie.Need-returns-6
 unfolding certifiedBy
-returns-6 c = rw (performing (c .before .before .before .before .before .before .before), c .before .before .before .before .before .change4 .given .1, c .before .before .certify-cells .ensures, swept-whole _ _ _ (certifies (c .before .before .before .before)) (long (c .before .before .before .before .before .before .before .before .before)), c .certified .ensures)
+returns-6 c = rw (fitting (c .before .before .before .before .before .before .before), c .before .before .before .before .before .change4 .given .1, c .before .before .certify-cells .ensures, swept-whole _ _ _ (certifies (c .before .before .before .before)) (long (c .before .before .before .before .before .before .before .before .before)), c .certified .ensures)
 
 returns-7 : tie.Need-returns-7
 unfolding left
-returns-7 c = rw (performing (c .before .before .before .before .before .before .before .before .before .before), c .before .before .before .before .before .before .before .before .change5 .given .1, c .before .before .before .end-items .ensures, ended-whole _ _ _ _ (ends (c .before .before .before .before .before .before .before)), c .before .clear-cells .ensures, swept-whole _ _ _ (ends (c .before .before .before .before .before .before .before)) (long (c .before .before .before .before .before .before .before .before .before .before .before .before)), c .left-free .ensures)
+returns-7 c = rw (fitting (c .before .before .before .before .before .before .before .before .before .before), c .before .before .before .before .before .before .before .before .change5 .given .1, c .before .before .before .end-items .ensures, ended-whole _ _ _ _ (ends (c .before .before .before .before .before .before .before)), c .before .clear-cells .ensures, swept-whole _ _ _ (ends (c .before .before .before .before .before .before .before)) (long (c .before .before .before .before .before .before .before .before .before .before .before .before)), c .left-free .ensures)
 
 pub perform-spec : {M : Type 1} → statement M
 perform-spec =

@@ -7,8 +7,7 @@ use Rattle.house.specs.declared.Request.{Request}
 use Rattle.ruling.proofs.Judged.{shows}
 use Rattle.ruling.proofs.Steps.{ruled-steps, ruled-fits}
 use Rattle.ruling.specs.Judged.{Judged}
-use Rattle.ruling.specs.Ruling.{fits, effect, ruled}
-use Rattle.perform.specs.Perform.{performed}
+use Rattle.ruling.specs.Ruling.{fits, effect, effectIfFit, ruled}
 use Rattle.desk.proofs.single.step.Statement.{statement}
 use Rattle.desk.proofs.single.step.Tie as tie
 
@@ -137,7 +136,7 @@ perform-requires : tie.Need-perform-requires
 perform-requires c κs = search needs
 
 returns-2 : tie.Need-returns-2
-unfolding performed
+unfolding effectIfFit
 returns-2 c = rw (stepping (c .before .before), c .perform .ensures, fit (c .before .before .before))
 
 pub step-spec : {M : Type 1} → statement M
