@@ -12,8 +12,8 @@ use lib.Dec.{eqb, ltb, leb}
 use borrow.Author.Tests.{eqb-true, eqb-false, ltb-true, ltb-false, leb-false, le-leb, lt-leb, lt-ltb}
 use Rattle.house.specs.declared.House.{House}
 use Rattle.house.specs.Opening.{wrongLength, openVerdict, opening}
-use Rattle.house.specs.Run.{replies}
-use Rattle.house.proofs.Runs.{replies-append}
+use Rattle.house.specs.Run.{finally, replies}
+use Rattle.house.proofs.Runs.{finally-append, replies-append}
 use Rattle.house.proofs.Tests.{is, clash, or-elim, or-false, or-right}
 use Rattle.desk.specs.Turn.{requests, wired, share, housed, turned, answered}
 use Rattle.desk.proofs.Laws.{requests-add, length-wired, wired-append}
@@ -23,8 +23,12 @@ use Rattle.dialogue.specs.declared.Dialogue.{Dialogue}
 use Rattle.dialogue.specs.declared.Stage.{Stage}
 use Rattle.dialogue.specs.declared.Stage.the-variants.{Waiting, Open, Refused}
 use Rattle.dialogue.specs.Dialogue.{announced, decided, levels, refusal, atStage, started, ended, drops, serves, fed}
-use Rattle.dialogue.specs.Pieces.{replied, programmed, Piece, joined, farewell, conversed, Enough, Roomy, InPieces, LeavesLittle}
+use Rattle.dialogue.specs.Pieces.{runOf, programmed, Piece, joined, farewell, conversed, Enough, Roomy, InPieces, LeavesLittle}
 use Rattle.dialogue.proofs.Laws.{there, opened-there, opens-open, opens-refused, fed-opens, fed-waits, fed-serves, fed-drops}
+
+-- these bytes first
+abbrev before : List ℕ → List ℕ × House → List ℕ × House
+before l rest = (l ++ rest .0, rest .1)
 
 -- Requests, of bytes in two parts
 
@@ -32,14 +36,14 @@ module _ (h : House) (part rest : List ℕ) where
   abbrev count : ℕ
   count = length part / 12
 
-  replied-append : replied h (part ++ rest) ≡ replied h part ++ replied (housed count h part) (drop (count * 12) part ++ rest)
-  unfolding replied
-  replied-append =
+  run-append : runOf h (part ++ rest) ≡ before (runOf h part .0) (runOf (housed count h part) (drop (count * 12) part ++ rest))
+  unfolding runOf
+  run-append =
       let past = drop (count * 12) part ++ rest in
       let m = length past / 12 in
       let e : length (part ++ rest) / 12 ≡ count + m = rw (length-append part rest, length-append (drop (count * 12) part) rest, length-drop (count * 12) part) (omega arith) in
       let r : requests (count + m) (part ++ rest) ≡ requests count part ++ requests m past = requests-add count m (part ++ rest) ∙ rw (requests-append count part rest (omega arith), drop-append-le (count * 12) part rest (omega arith)) in
-      rw (e, r, replies-append h (requests count part) (requests m past)) (wired-append (replies h (requests count part)) (replies (housed count h part) (requests m past)))
+      rw (e, r, replies-append h (requests count part) (requests m past), finally-append h (requests count part) (requests m past), wired-append (replies h (requests count part)) (replies (housed count h part) (requests m past)))
 
 -- A turn on the requests past the first k bytes, with more to come
 
@@ -58,12 +62,12 @@ module _ (h : House) (k : ℕ) (bytes room : List ℕ) (there : k ≤ length byt
   serves-short : length (drop (serves h k bytes room .0 .used) bytes) < 12
   serves-short = rw (serves-used, length-drop (length input / 12 * 12) input) (omega arith)
 
-  serves-step : (future : List ℕ) → take (serves h k bytes room .0 .written) (serves h k bytes room .1) ++ replied (serves h k bytes room .0 .dialogue .house) (drop (serves h k bytes room .0 .used) bytes ++ future) ≡ replied h (input ++ future)
-  unfolding serves turned answered replied
+  serves-step : (future : List ℕ) → before (take (serves h k bytes room .0 .written) (serves h k bytes room .1)) (runOf (serves h k bytes room .0 .dialogue .house) (drop (serves h k bytes room .0 .used) bytes ++ future)) ≡ runOf h (input ++ future)
+  unfolding serves turned answered runOf
   serves-step future =
       let m = length input / 12 in
       rw (all, take-at (wired (replies h (requests m input))) (drop (m * 16) room) (m * 16) (length-wired h m input), sym (drop-drop (m * 12) k bytes))
-      (sym (replied-append h input future))
+      (sym (run-append h input future))
 
 -- The opening, with more to come
 
@@ -84,81 +88,90 @@ module _ (b rest : List ℕ) (there : announced b + 1 ≤ length b) where
   whole : ltb 64 len ≡ false → levels b ≡ take len (drop 1 b)
   whole e = rw e
 
-  programmed-open : ltb 64 len ≡ false → opening (levels b) .number ≡ 0 → programmed (b ++ rest) ≡ replied (opening (levels b) .house) (drop (len + 1) b ++ rest)
+  programmed-open : ltb 64 len ≡ false → opening (levels b) .number ≡ 0 → programmed (b ++ rest) ≡ runOf (opening (levels b) .house) (drop (len + 1) b ++ rest)
   unfolding programmed
   programmed-open e z = rw (announced-append, come, levels-append, sym (whole e), z, drop-append-le (len + 1) b rest there)
 
-  programmed-refused : ltb 64 len ≡ false → (eqb (opening (levels b) .number) 0 ≡ false) → programmed (b ++ rest) ≡ refusal (opening (levels b) .number)
+  programmed-refused : ltb 64 len ≡ false → (eqb (opening (levels b) .number) 0 ≡ false) → programmed (b ++ rest) ≡ (refusal (opening (levels b) .number), opening (levels b) .house)
   unfolding programmed
   programmed-refused e z = rw (announced-append, come, levels-append, sym (whole e), z)
 
 -- more than 64 were announced
 
-too-long : (l : List ℕ) → 64 < length l → opening l .number ≡ 13
+too-long : (l : List ℕ) → 64 < length l → opening l ≡ opening []
 unfolding opening openVerdict wrongLength
 too-long l h = rw (or-right (eqb (length l) 0) (ltb 64 (length l)) (lt-ltb 64 (length l) h))
 
-programmed-long : (b : List ℕ) → ltb 64 (announced b) ≡ true → programmed b ≡ refusal 13
+-- none were
+no-levels : opening [] .number ≡ 13
+unfolding opening openVerdict wrongLength
+no-levels = refl
+
+programmed-long : (b : List ℕ) → ltb 64 (announced b) ≡ true → programmed b ≡ (refusal 13, opening [] .house)
 unfolding programmed
 programmed-long b y =
     elim (is (leb (length b) (announced b))) [
       | inl e ↦ rw e
       | inr e ↦ rw e
           (let long : 64 < length (take (announced b) (drop 1 b)) = rw (length-take (announced b) (drop 1 b), length-drop 1 b) (omega (arith, ltb-true 64 (announced b) y, leb-false (length b) (announced b) e)) in
-          rw (too-long (take (announced b) (drop 1 b)) long))
+          rw (too-long (take (announced b) (drop 1 b)) long, no-levels))
     ]
 
 -- WHAT IS STILL TO BE WRITTEN, with these bytes to come
 
-unfoldable expected : Dialogue → List ℕ → List ℕ
-expected s b = atStage (s .stage) (programmed b) (replied (s .house) b) (farewell (s .stage))
+unfoldable expected : Dialogue → List ℕ → List ℕ × House
+expected s b = atStage (s .stage) (programmed b) (runOf (s .house) b) (farewell (s .stage), s .house)
 
 -- nothing more can be made of these bytes
 unfoldable Unfinished : Dialogue → List ℕ → Type 0
 Unfinished s b = atStage (s .stage) (decided b ≡ false) (length b < 12) (Unit {0})
 
-expected-last : (stage : Stage) (h : House) (b : List ℕ) → Unfinished (record { stage = stage; house = h }) b → farewell (ended stage) ≡ expected (record { stage = stage; house = h }) b
-unfolding expected Unfinished programmed replied decided wired replies requests
-expected-last Waiting h b u = rw (le-leb (length b) (announced b) (ltb-false (announced b) (length b) (or-false _ _ u .0)))
-expected-last Open h b u =
+-- who waits has the house of no items
+unfoldable Fresh : Dialogue → Type 0
+Fresh s = atStage (s .stage) (s .house ≡ opening [] .house) (Unit {0}) (Unit {0})
+
+expected-last : (stage : Stage) (h : House) (b : List ℕ) → Fresh (record { stage = stage; house = h }) → Unfinished (record { stage = stage; house = h }) b → (farewell (ended stage), h) ≡ expected (record { stage = stage; house = h }) b
+unfolding expected Fresh Unfinished programmed runOf decided wired replies finally requests
+expected-last Waiting h b e u = rw (le-leb (length b) (announced b) (ltb-false (announced b) (length b) (or-false _ _ u .0)), e)
+expected-last Open h b e u =
     let z : length b / 12 ≡ 0 = omega arith in
     rw z
-expected-last (Refused m) h b u = refl
+expected-last (Refused m) h b e u = refl
 
 -- BYTES GIVEN
 
 record After (s : Dialogue) (bytes : List ℕ) (f : Fed × List ℕ) : Type 0 where
-  same : (future : List ℕ) → take (f .0 .written) (f .1) ++ expected (f .0 .dialogue) (drop (f .0 .used) bytes ++ future) ≡ expected s (bytes ++ future)
+  same : (future : List ℕ) → before (take (f .0 .written) (f .1)) (expected (f .0 .dialogue) (drop (f .0 .used) bytes ++ future)) ≡ expected s (bytes ++ future)
+  fresh : Fresh s → Fresh (f .0 .dialogue)
   unfinished : Unfinished (f .0 .dialogue) (drop (f .0 .used) bytes)
   little : length (drop (f .0 .used) bytes) ≤ 64
 
 -- to an open dialogue, or to one that these bytes open
-after-serves : (s : Dialogue) (h : House) (k : ℕ) (bytes room : List ℕ) → k ≤ length bytes → Enough bytes room → ((future : List ℕ) → replied h (drop k bytes ++ future) ≡ expected s (bytes ++ future)) → After s bytes (serves h k bytes room)
-unfolding expected Unfinished serves
+after-serves : (s : Dialogue) (h : House) (k : ℕ) (bytes room : List ℕ) → k ≤ length bytes → Enough bytes room → ((future : List ℕ) → runOf h (drop k bytes ++ future) ≡ expected s (bytes ++ future)) → After s bytes (serves h k bytes room)
+unfolding expected Fresh Unfinished serves
 after-serves s h k bytes room there enough e =
     let short = serves-short h k bytes room there enough in
-    record { same = λ future. serves-step h k bytes room there enough future ∙ e future; unfinished = short; little = omega (arith, short) }
+    record { same = λ future. serves-step h k bytes room there enough future ∙ e future; fresh = λ i. tt; unfinished = short; little = omega (arith, short) }
 
 -- to one that is refused, or that these bytes have refused
-after-drops : (s t : Dialogue) (m : ℕ) (bytes room : List ℕ) → t .stage ≡ Refused m → ((future : List ℕ) → refusal m ≡ expected s (bytes ++ future)) → After s bytes (drops t bytes room)
-unfolding expected Unfinished
+after-drops : (s t : Dialogue) (m : ℕ) (bytes room : List ℕ) → t .stage ≡ Refused m → ((future : List ℕ) → (refusal m, t .house) ≡ expected s (bytes ++ future)) → After s bytes (drops t bytes room)
+unfolding expected Fresh Unfinished
 after-drops s t m bytes room r e =
-    record { same = λ future. rw r (e future); unfinished = rw r tt; little = rw (drop-length bytes) (omega arith) }
+    record { same = λ future. rw r (e future); fresh = λ i. rw r tt; unfinished = rw r tt; little = rw (drop-length bytes) (omega arith) }
 
-long-number : (b : List ℕ) → ltb 64 (announced b) ≡ true → opening (levels b) .number ≡ 13
-unfolding opening openVerdict wrongLength
-long-number b y = rw y
+long-opening : (b : List ℕ) → ltb 64 (announced b) ≡ true → opening (levels b) ≡ opening []
+long-opening b y = rw y
 
 few : (b : List ℕ) → opening (levels b) .number ≡ 0 → ltb 64 (announced b) ≡ false
-few b z = elim (is (ltb 64 (announced b))) [ inl y ↦ absurd (omega (arith, long-number b y)) | inr n ↦ n ]
+few b z = elim (is (ltb 64 (announced b))) [ inl y ↦ absurd (omega (arith, ap (λ o. o .number) (long-opening b y), no-levels)) | inr n ↦ n ]
 
-refused-now : (b rest : List ℕ) → decided b ≡ true → eqb (opening (levels b) .number) 0 ≡ false → refusal (opening (levels b) .number) ≡ programmed (b ++ rest)
+refused-now : (b rest : List ℕ) → decided b ≡ true → eqb (opening (levels b) .number) 0 ≡ false → (refusal (opening (levels b) .number), opening (levels b) .house) ≡ programmed (b ++ rest)
 unfolding decided
 refused-now b rest d z =
     elim (is (ltb 64 (announced b))) [
       | inl y ↦
           let e : announced (b ++ rest) ≡ announced b = List·getD-append b rest 0 0 (there b y) in
-          rw (long-number b y) (sym (programmed-long (b ++ rest) (rw e y)))
+          rw (long-opening b y, no-levels) (sym (programmed-long (b ++ rest) (rw e y)))
       | inr f ↦
           let come : ltb (announced b) (length b) ≡ true = or-elim (ltb (announced b) (length b)) (ltb 64 (announced b)) d (λ l. l) (λ y. clash y f) in
           sym (programmed-refused b rest (omega (arith, ltb-true (announced b) (length b) come)) f z)
@@ -184,7 +197,7 @@ after-waiting h bytes room enough =
           ])
       | inr n ↦ rw (fed-waits s bytes room refl n)
           (let u = or-false (ltb (announced bytes) (length bytes)) (ltb 64 (announced bytes)) n in
-          record { same = λ future. refl; unfinished = n; little = omega (arith, ltb-false (announced bytes) (length bytes) (u .0), ltb-false 64 (announced bytes) (u .1)) })
+          record { same = λ future. refl; fresh = λ i. i; unfinished = n; little = omega (arith, ltb-false (announced bytes) (length bytes) (u .0), ltb-false 64 (announced bytes) (u .1)) })
     ]
 
 after : (stage : Stage) (h : House) (bytes room : List ℕ) → Enough bytes room → After (record { stage = stage; house = h }) bytes (fed (record { stage = stage; house = h }) bytes room)
@@ -195,20 +208,20 @@ after (Refused m) h bytes room enough = rw (fed-drops (record { stage = Refused 
 
 -- THE THEOREMS
 
-conversed-expected : (s : Dialogue) (unused : List ℕ) (ps : List Piece) → Unfinished s unused → Roomy s unused ps → conversed s unused ps ≡ expected s (unused ++ joined ps)
+conversed-expected : (s : Dialogue) (unused : List ℕ) (ps : List Piece) → Fresh s → Unfinished s unused → Roomy s unused ps → conversed s unused ps ≡ expected s (unused ++ joined ps)
 unfolding conversed Roomy joined
-conversed-expected s unused [] u r = rw (append-nil unused) (expected-last (s .stage) (s .house) unused u)
-conversed-expected s unused (p ∷ ps) u r =
+conversed-expected s unused [] e u r = rw (append-nil unused) (expected-last (s .stage) (s .house) unused e u)
+conversed-expected s unused (p ∷ ps) e u r =
     let bytes = unused ++ p .0 in
     let f = fed s bytes (p .1) in
     let a = after (s .stage) (s .house) bytes (p .1) (r .0) in
-    ap (λ l. take (f .0 .written) (f .1) ++ l) (conversed-expected (f .0 .dialogue) (drop (f .0 .used) bytes) ps (a .unfinished) (r .1))
+    ap (before (take (f .0 .written) (f .1))) (conversed-expected (f .0 .dialogue) (drop (f .0 .used) bytes) ps (a .fresh e) (a .unfinished) (r .1))
     ∙ a .same (joined ps)
     ∙ ap (expected s) (append-assoc unused (p .0) (joined ps))
 
 pub in-pieces : InPieces
-unfolding started expected Unfinished decided
-in-pieces ps r = conversed-expected started [] ps refl r
+unfolding started expected Fresh Unfinished decided
+in-pieces ps r = conversed-expected started [] ps refl refl r
 
 pub leaves-little : LeavesLittle
 leaves-little s bytes room enough = after (s .stage) (s .house) bytes room enough .little

@@ -1,4 +1,4 @@
--- The whole input at once, and in pieces: the program writes the same.
+-- The whole input at once, and in pieces: the program writes the same, and holds the same house at the end.
 -- Assumes nothing. Proved in proofs/Pieces.antt.
 use Prim.Native.Nat.{ℕ, _+_, _*_, _/_, _≤_}
 use mathlib.Core.Path.{_≡_}
@@ -8,25 +8,25 @@ use lib.ListN.{length, take, drop}
 use lib.Dec.{eqb, leb}
 use Rattle.house.specs.declared.House.{House}
 use Rattle.house.specs.Opening.{opening}
-use Rattle.house.specs.Run.{replies}
+use Rattle.house.specs.Run.{finally, replies}
 use Rattle.desk.specs.Turn.{requests, wired}
 use Rattle.dialogue.specs.declared.Dialogue.{Dialogue}
 use Rattle.dialogue.specs.declared.Stage.{Stage}
 use Rattle.dialogue.specs.declared.Stage.the-variants.{Waiting, Open, Refused}
 use Rattle.dialogue.specs.Dialogue.{announced, refusal, started, ended, fed}
 
--- the replies to the whole requests of these bytes. "An unfinished last request gets no reply."
-unfoldable pub replied : House → List ℕ → List ℕ
-replied h bytes = wired (replies h (requests (length bytes / 12) bytes))
+-- the replies to the whole requests of these bytes, and the house after them. "An unfinished last request gets no reply."
+unfoldable pub runOf : House → List ℕ → List ℕ × House
+runOf h bytes = let qs = requests (length bytes / 12) bytes in (wired (replies h qs), finally h qs)
 
 -- "one byte n, n level bytes, then requests .. If opening is refused, or input ends before the levels do (13), it writes one
 -- reply of that number with all else zero, and stops."
-unfoldable pub programmed : List ℕ → List ℕ
+unfoldable pub programmed : List ℕ → List ℕ × House
 programmed input =
     let n = announced input in
     let o = opening (take n (drop 1 input)) in
-    cond (leb (length input) n) (refusal 13)
-    (cond (eqb (o .number) 0) (replied (o .house) (drop (n + 1) input)) (refusal (o .number)))
+    cond (leb (length input) n) (refusal 13, opening [] .house)
+    (cond (eqb (o .number) 0) (runOf (o .house) (drop (n + 1) input)) (refusal (o .number), o .house))
 
 -- a piece of input, and the reply bytes that are lent for it
 abbrev pub Piece : Type 0
@@ -42,13 +42,14 @@ farewell Waiting = []
 farewell Open = []
 farewell (Refused n) = refusal n
 
--- what is written for pieces, the unused bytes of each before the next one
-unfoldable pub conversed : Dialogue → List ℕ → List Piece → List ℕ
-conversed s unused [] = farewell (ended (s .stage))
+-- what is written for pieces, the unused bytes of each before the next one, and the house at the end
+unfoldable pub conversed : Dialogue → List ℕ → List Piece → List ℕ × House
+conversed s unused [] = (farewell (ended (s .stage)), s .house)
 conversed s unused (p ∷ ps) =
     let bytes = unused ++ p .0 in
     let f = fed s bytes (p .1) in
-    take (f .0 .written) (f .1) ++ conversed (f .0 .dialogue) (drop (f .0 .used) bytes) ps
+    let rest = conversed (f .0 .dialogue) (drop (f .0 .used) bytes) ps in
+    (take (f .0 .written) (f .1) ++ rest .0, rest .1)
 
 -- there is room for a reply to each whole request
 abbrev pub Enough : List ℕ → List ℕ → Type 0

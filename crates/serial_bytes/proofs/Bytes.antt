@@ -21,10 +21,10 @@ use Rattle.serial.proofs.Demand.{trace-append, demand}
 use Rattle.serial_bytes.specs.Bytes.{Given, taken, afterTurns, exchanged, events, InBytes, Demand3OverBytes, OverBytes}
 use Rattle.serial_bytes.proofs.Range.{Fits, step-fits, opening-fits, request-fits}
 
-abbrev Small : List ℕ → Type 0
+abbrev pub Small : List ℕ → Type 0
 Small b = (k : ℕ) → getD b k 0 < 256
 
-small-drop : (n : ℕ) (b : List ℕ) → Small b → Small (drop n b)
+pub small-drop : (n : ℕ) (b : List ℕ) → Small b → Small (drop n b)
 small-drop n b s k = rw (getD-drop n b k 0) (s (n + k))
 
 -- a reply before others
@@ -43,7 +43,7 @@ unfolding requests finally
 turn-fits zero h input f s = f
 turn-fits (suc n) h input f s = turn-fits n (stepped h (requestAt input 0) .house) (drop 12 input) (step-fits f _ (request-fits input s) .0) (small-drop 12 input s)
 
-turn-trace : (n : ℕ) (h : House) (input rest : List ℕ) → Fits h → Small input → exchanged n input (wired (replies h (requests n input)) ++ rest) ≡ trace h (requests n input)
+pub turn-trace : (n : ℕ) (h : House) (input rest : List ℕ) → Fits h → Small input → exchanged n input (wired (replies h (requests n input)) ++ rest) ≡ trace h (requests n input)
 unfolding exchanged requests wired replies trace
 turn-trace zero h input rest f s = refl
 turn-trace (suc n) h input rest f s =

@@ -1,0 +1,97 @@
+-- Demand 3 over all that the program reads and writes.
+-- Assumes nothing.
+use Prim.Native.Nat.{ℕ, zero, suc, _+_, _/_, _≤_, min}
+use native.Mathlib.Omega.{arith}
+use mathlib.Core.Path.{_≡_, refl, sym, ap}
+use mathlib.Core.Logic.{_≢_, inl, inr}
+use mathlib.Core.List.{List, [], _∷_, map, append-nil}
+use lib.ListN.{length, take, drop, replicate}
+use lib.Dec.{eqb, leb}
+use borrow.Author.Tests.{eqb-false, ne-eqb}
+use Rattle.house.specs.declared.House.{House}
+use Rattle.house.specs.declared.Item.{Item}
+use Rattle.house.specs.Search.{mapFrom}
+use Rattle.house.specs.House.{blank as blankItem}
+use Rattle.house.specs.Opening.{rowAt, rows, opened, opening}
+use Rattle.house.specs.Run.{replies}
+use Rattle.house.proofs.Tests.{is}
+use Rattle.wire.specs.Wire.{replyAt, replyBytes}
+use Rattle.desk.specs.Turn.{requests, wired}
+use Rattle.desk.proofs.Laws.{length-wired}
+use Rattle.dialogue.specs.Dialogue.{announced, refusal}
+use Rattle.dialogue.specs.Pieces.{runOf, programmed, joined}
+use Rattle.dialogue.proofs.Pieces.{in-pieces}
+use Rattle.serial.specs.Demand.{Event, trace, row, work, commits, answers, serially, table, Demand3}
+use Rattle.serial.proofs.Demand.{demand}
+use Rattle.serial_bytes.specs.Bytes.{exchanged}
+use Rattle.serial_bytes.specs.Program.{seen, blank, Demand3OfProgram, OfProgram}
+use Rattle.serial_bytes.proofs.Range.{opening-fits}
+use Rattle.serial_bytes.proofs.Bytes.{Small, small-drop, turn-trace}
+
+-- the demand, of these events
+abbrev Equal : List Event → House → Type 0
+Equal es h = serially blank (map (λ n. work n es) (commits es)) ≡ (map (λ n. answers (work n es)) (commits es), table h)
+
+-- THE TABLE AT AN OPENING
+
+rows-blank : (levels : List ℕ) (k : ℕ) (xs : List Item) → map row (mapFrom k (rowAt levels) xs) ≡ replicate (length xs) (0, 0)
+unfolding mapFrom rowAt
+rows-blank levels k [] = refl
+rows-blank levels k (x ∷ xs) = ap (λ t. (0, 0) ∷ t) (rows-blank levels (suc k) xs)
+
+opening-blank : (levels : List ℕ) → table (opening levels .house) ≡ blank
+unfolding opening opened rows
+opening-blank levels = rows-blank _ 0 (replicate 64 blankItem)
+
+-- NOBODY COMMITTED
+
+idle : (es : List Event) (h : House) → commits es ≡ [] → table h ≡ blank → Equal es h
+unfolding serially
+idle es h c t = rw (c, t)
+
+-- the one reply of a refused opening is of no done request
+refused-idle : (m n : ℕ) (asked : List ℕ) → n ≢ 0 → m ≤ 1 → commits (exchanged m asked (refusal n)) ≡ []
+unfolding exchanged commits refusal replyAt replyBytes
+refused-idle zero n asked d b = refl
+refused-idle (suc zero) n asked d b = rw (ne-eqb n 0 d)
+refused-idle (suc (suc m)) n asked d b = absurd (omega arith)
+
+one-reply : (n k : ℕ) → min k (length (refusal n) / 16) ≤ 1
+unfolding refusal replyBytes
+one-reply n k = omega arith
+
+refused-equal : (input : List ℕ) (n : ℕ) (levels : List ℕ) → n ≢ 0 → Equal (seen input (refusal n)) (opening levels .house)
+unfolding seen
+refused-equal input n levels d = idle _ (opening levels .house) (refused-idle _ n _ d (one-reply n _)) (opening-blank levels)
+
+-- THE OPENING WAS DONE
+
+opened-equal : (input levels : List ℕ) → Small input → Equal (seen input (runOf (opening levels .house) (drop (announced input + 1) input) .0)) (runOf (opening levels .house) (drop (announced input + 1) input) .1)
+unfolding seen runOf Demand3
+opened-equal input levels s =
+    let h = opening levels .house in
+    let asked = drop (announced input + 1) input in
+    let n = length asked / 12 in
+    let all : min n (length (wired (replies h (requests n asked))) / 16) ≡ n = rw (length-wired h n asked) (omega arith) in
+    let t : exchanged n asked (wired (replies h (requests n asked))) ≡ trace h (requests n asked) = rw (append-nil (wired (replies h (requests n asked)))) at (turn-trace n h asked [] (opening-fits levels) (small-drop (announced input + 1) input s)) in
+    rw (all, t, sym (opening-blank levels)) (demand levels (requests n asked))
+
+-- THE THEOREM
+
+programmed-equal : (input : List ℕ) → Small input → Equal (seen input (programmed input .0)) (programmed input .1)
+unfolding programmed
+programmed-equal input s =
+    let n = announced input in
+    let levels = take n (drop 1 input) in
+    elim (is (leb (length input) n)) [
+      | inl y ↦ rw y (refused-equal input 13 [] (λ e. omega arith))
+      | inr y ↦ rw y
+          (elim (is (eqb (opening levels .number) 0)) [
+            | inl z ↦ rw z (opened-equal input levels s)
+            | inr z ↦ rw z (refused-equal input (opening levels .number) levels (eqb-false (opening levels .number) 0 z))
+          ])
+    ]
+
+pub of-program : OfProgram
+unfolding Demand3OfProgram
+of-program ps r s = rw (in-pieces ps r) (programmed-equal (joined ps) s)
