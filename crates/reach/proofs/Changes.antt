@@ -16,7 +16,7 @@ use Rattle.house.specs.declared.Standing.the-variants.{Active}
 use Rattle.house.specs.Cell.{has, marked, unmarked, cellAt, holds}
 use Rattle.house.specs.House.{dominates, above, levelOf, itemAt, placeAt, nextAt, isFree}
 use Rattle.house.specs.Rules.{ticketAfter, begun, readBy, writtenBy, certifiedCell, certifiedBy, clearedCell, left, committedItem, abortedItem}
-use Rattle.house.proofs.Tests.{is, same, clash, and-true, and-intro, not-of}
+use Rattle.house.proofs.Tests.{is, same, clash, and-true, and-intro, or-right, not-of}
 use Rattle.house.proofs.Cells.{alike, has-marked, has-unmarked, has-withMark}
 use Rattle.house.proofs.Effects.{begun-sizes, begun-place, begun-next, read-sizes, written-sizes, written-item, certified-sizes, certified-place, certified-cell, left-sizes, left-item, left-place, left-cell, begun-place-other, begun-next-other, read-cell-other, written-cell-other, written-item-other, certified-place-other, left-place-other}
 use Rattle.reach.specs.Kept.{Issued}
@@ -115,6 +115,7 @@ module _ {h : House} {me i : ℕ} (L : Law h) (K : MayRead h me i) where
               writing = λ w. k .writing (sym (read-mine Write j a) ∙ w);
               certifying = λ w. k .certifying (sym (read-mine Certify j a) ∙ w);
               below = λ r. elim (same j i) [ inl e ↦ rw e (K .may) | inr n ↦ k .below (rw (read-mine Read j a, ne-eqb j i n) at r) ];
+              heard = λ x. read-mine Read j a ∙ or-right (eqb j i) _ (k .heard (sym (read-mine Signalled j a) ∙ x));
               owned = λ g. k .owned (sym (read-held j a) ∙ g);
               room = λ g. k .room (sym (read-held j a) ∙ g);
             };
@@ -183,6 +184,7 @@ module _ {h : House} {me i : ℕ} (v : ℕ) (L : Law h) (K : MayWrite h me i) wh
               writing = λ w. rw (K .active);
               certifying = λ w. k .certifying (sym (write-mine Certify j a) ∙ w);
               below = λ r. rw (write-level j) (k .below (sym (write-mine Read j a) ∙ r));
+              heard = λ x. write-mine Read j a ∙ k .heard (sym (write-mine Signalled j a) ∙ x);
               owned = λ g. write-level j ∙ elim (same j i) [ inl e ↦ rw e (K .mine) | inr n ↦ k .owned (sym (write-held j a n) ∙ g) ];
               room = λ g.
                   elim (same j i) [
@@ -231,6 +233,7 @@ spared-signal c r =
       writing = has-marked Write Signalled c;
       certifying = has-marked Certify Signalled c;
       signal = λ s. has-marked Signalled Signalled c;
+      heard = λ s. inr r;
     }
 
 -- dominates, and not of the same level
@@ -312,6 +315,7 @@ module _ {h : House} {me : ℕ} (L : Law h) (K : MayCertify h me) where
               writing = λ w. clash w (certify-writes i a);
               certifying = λ c. refl;
               below = λ r. k .below (sym (certify-read i a) ∙ r);
+              heard = λ x. certify-read i a ∙ k .heard (sym (certify-signalled i a) ∙ x);
               owned = λ g. k .owned (sym (certify-held i a) ∙ g);
               room = λ g. k .room (sym (certify-held i a) ∙ g);
             });

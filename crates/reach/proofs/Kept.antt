@@ -63,6 +63,7 @@ kept L T =
       certifying = λ p i b a. L .cells p i b a .certifying;
       higher = λ p r i b c a n x y. L .warned p r i b c a n x y .higher;
       warned = λ p r i b c a n x y. L .warned p r i b c a n x y .signal;
+      heard = λ p i b a. L .cells p i b a .heard;
       room = λ p i b a. L .cells p i b a .room;
     }
 
@@ -77,6 +78,7 @@ kept-law K =
             writing = K .writing p i b a;
             certifying = K .certifying p i b a;
             below = K .below p i b a;
+            heard = K .heard p i b a;
             owned = K .owned p i b a;
             room = K .room p i b a;
           };

@@ -5,7 +5,7 @@
 use Prim.Native.Nat.{ℕ, _<_}
 use native.Mathlib.Omega.{arith}
 use mathlib.Core.Path.{_≡_, sym, ap, _∙_}
-use mathlib.Core.Logic.{_≢_, inl, inr}
+use mathlib.Core.Logic.{_≢_, _⊎_, inl, inr}
 use mathlib.Core.Bool.{Bool, true, false, _||_}
 use Rattle.house.specs.declared.House.{House}
 use Rattle.house.specs.declared.Item.{Item}
@@ -43,6 +43,7 @@ pub record CellLaw (l : ℕ) (x : Item) (s : Standing) (c : ℕ) : Type 0 where
   pub writing : has Write c ≡ true → isActive s ≡ true
   pub certifying : has Certify c ≡ true → isCertified s ≡ true
   pub below : has Read c ≡ true → dominates l (x .level) ≡ true
+  pub heard : has Signalled c ≡ true → has Read c ≡ true
   pub owned : held c ≡ true → x .level ≡ l
   pub room : held c ≡ true → x .version < 4294967295
 
@@ -79,6 +80,7 @@ clear-lawful c z l x s =
       writing = λ w. clash w (clear-has Write c z);
       certifying = λ w. clash w (clear-has Certify c z);
       below = λ w. clash w (clear-has Read c z);
+      heard = λ w. clash w (clear-has Signalled c z);
       owned = λ w. clash w (clear-held c z);
       room = λ w. clash w (clear-held c z);
     }
@@ -108,9 +110,10 @@ pub record Spared (c d : ℕ) : Type 0 where
   pub writing : has Write d ≡ has Write c
   pub certifying : has Certify d ≡ has Certify c
   pub signal : has Signalled c ≡ true → has Signalled d ≡ true
+  pub heard : has Signalled d ≡ true → (has Signalled c ≡ true) ⊎ (has Read c ≡ true)
 
 pub spared-same : {c d : ℕ} → d ≡ c → Spared c d
-spared-same e = record { clear = λ z. e ∙ z; reading = ap (has Read) e; writing = ap (has Write) e; certifying = ap (has Certify) e; signal = λ s. ap (has Signalled) e ∙ s }
+spared-same e = record { clear = λ z. e ∙ z; reading = ap (has Read) e; writing = ap (has Write) e; certifying = ap (has Certify) e; signal = λ s. ap (has Signalled) e ∙ s; heard = λ s. inl (sym (ap (has Signalled) e) ∙ s) }
 
 pub record Frame (h h′ : House) (me : ℕ) : Type 0 where
   pub sizes : Sizes h′
@@ -147,6 +150,7 @@ module _ {h h′ : House} {me : ℕ} (L : Law h) (F : Frame h h′ me) where
         writing = λ w. k .writing (sym (s .writing) ∙ w);
         certifying = λ c. k .certifying (sym (s .certifying) ∙ c);
         below = λ r. rw (F .level i a) (k .below (sym (s .reading) ∙ r));
+        heard = λ x. s .reading ∙ elim (s .heard x) [ inl y ↦ k .heard y | inr y ↦ y ];
         owned = λ g. F .level i a ∙ k .owned (sym hk ∙ g);
         room = λ g. rw (F .item p i b a n (sym hk ∙ g)) (k .room (sym hk ∙ g));
       })

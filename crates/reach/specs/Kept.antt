@@ -68,6 +68,8 @@ pub record Kept (h : House) : Type 0 where
   pub higher : (p r i : ℕ) → p < 32 → r < 32 → i < 64 → r ≢ p → holds (h .cells) Certify p i ≡ true → holds (h .cells) Read r i ≡ true → above (levelOf r) (levelOf p) ≡ true
   -- and each of them is signalled
   pub warned : (p r i : ℕ) → p < 32 → r < 32 → i < 64 → r ≢ p → holds (h .cells) Certify p i ≡ true → holds (h .cells) Read r i ≡ true → holds (h .cells) Signalled r i ≡ true
+  -- whoever is signalled has a read lock there
+  pub heard : (p i : ℕ) → p < 32 → i < 64 → holds (h .cells) Signalled p i ≡ true → holds (h .cells) Read p i ≡ true
   -- a written item's version can grow
   pub room : (p i : ℕ) → p < 32 → i < 64 → wrote (h .cells) p i ≡ true → itemAt (h .items) i .version < 4294967295
 
