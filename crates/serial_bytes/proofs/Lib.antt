@@ -1,3 +1,3 @@
 pub mod Range
 pub mod Bytes
-pub mod Program
+pub mod Pieces

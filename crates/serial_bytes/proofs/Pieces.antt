@@ -1,4 +1,4 @@
--- Demand 3 over all that the program reads and writes.
+-- Demand 3 over a whole dialogue: what is read from the bytes in and out is the trace of the requests, or nothing was done.
 -- Assumes nothing.
 use Prim.Native.Nat.{ℕ, zero, suc, _+_, _/_, _≤_, min}
 use native.Mathlib.Omega.{arith}
@@ -24,7 +24,7 @@ use Rattle.dialogue.proofs.Pieces.{in-pieces}
 use Rattle.serial.specs.Demand.{Event, trace, row, work, commits, answers, serially, table, Demand3}
 use Rattle.serial.proofs.Demand.{demand}
 use Rattle.serial_bytes.specs.Bytes.{exchanged}
-use Rattle.serial_bytes.specs.Program.{seen, blank, Demand3OfProgram, OfProgram}
+use Rattle.serial_bytes.specs.Pieces.{seen, blank, Demand3OverPieces, OverPieces}
 use Rattle.serial_bytes.proofs.Range.{opening-fits}
 use Rattle.serial_bytes.proofs.Bytes.{Small, small-drop, turn-trace}
 
@@ -92,6 +92,6 @@ programmed-equal input s =
           ])
     ]
 
-pub of-program : OfProgram
-unfolding Demand3OfProgram
-of-program ps r s = rw (in-pieces ps r) (programmed-equal (joined ps) s)
+pub over-pieces : OverPieces
+unfolding Demand3OverPieces
+over-pieces ps r s = rw (in-pieces ps r) (programmed-equal (joined ps) s)

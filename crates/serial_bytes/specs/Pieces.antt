@@ -1,5 +1,5 @@
--- Demand 3 over all that the program reads and writes, in whatever pieces its input comes: the opening, the requests, the replies.
--- Assumes nothing. Proved in proofs/Program.antt.
+-- Demand 3 over a whole dialogue, from its opening to the end of the input, in whatever pieces that comes.
+-- Assumes nothing. Proved in proofs/Pieces.antt.
 use Prim.Native.Nat.{ℕ, _+_, _/_, _<_, min}
 use mathlib.Core.Path.{_≡_}
 use mathlib.Core.List.{List, [], map}
@@ -21,12 +21,12 @@ abbrev pub blank : Table
 blank = replicate 64 (0, 0)
 
 -- what was written for these pieces, and the house at the end, stand in `conversed`
-unfoldable pub Demand3OfProgram : List Piece → Type 0
-Demand3OfProgram ps =
+unfoldable pub Demand3OverPieces : List Piece → Type 0
+Demand3OverPieces ps =
     let end = conversed started [] ps in
     let es = seen (joined ps) (end .0) in
     serially blank (map (λ n. work n es) (commits es)) ≡ (map (λ n. answers (work n es)) (commits es), table (end .1))
 
 -- THE STATEMENT: of every input, refused openings included, in any pieces, with room for the replies to each
-abbrev pub OfProgram : Type 0
-OfProgram = (ps : List Piece) → Roomy started [] ps → ((k : ℕ) → getD (joined ps) k 0 < 256) → Demand3OfProgram ps
+abbrev pub OverPieces : Type 0
+OverPieces = (ps : List Piece) → Roomy started [] ps → ((k : ℕ) → getD (joined ps) k 0 < 256) → Demand3OverPieces ps
