@@ -1,6 +1,7 @@
 #include "desks.h"
 
 #include "plain.h"
+#include "steps.h"
 #include "tuned.h"
 #ifdef WITH_BDB
 #include "bdb.h"
@@ -46,6 +47,7 @@ static size_t run_turn(const uint8_t *levels, size_t n, const uint8_t *requests,
 
 const struct desk desks[] = {
     {"plain", open_later, run_plain},
+    {"steps", open_later, steps_run},
     {"tuned", open_later, run_tuned},
 #ifdef WITH_PROVED
     {"turn", open_later, run_turn},

@@ -78,11 +78,11 @@ build() { # FOLDER [bdb] [LIBRARY]
     if [ "$cc" = "$cross" ]; then link="$link -static"; fi
     mkdir -p "$folder"
     compile_with "$tuned_by" bench/tuned.c "$folder/tuned.o"
-    for name in plain desks traffic main drive $sources; do
+    for name in plain steps desks traffic main drive $sources; do
         # shellcheck disable=SC2086
         $cc $strict -O2 $flags -c "bench/$name.c" -o "$folder/$name.o"
     done
-    set -- "$folder/plain.o" "$folder/tuned.o" "$folder/desks.o" "$folder/traffic.o"
+    set -- "$folder/plain.o" "$folder/steps.o" "$folder/tuned.o" "$folder/desks.o" "$folder/traffic.o"
     for name in $sources; do set -- "$@" "$folder/$name.o"; done
     # shellcheck disable=SC2086
     $cc "$folder/main.o" "$@" $link -o "$folder/bench"

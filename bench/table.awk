@@ -1,7 +1,7 @@
 # The table in Markdown, from the raw figures.
 BEGIN {
     FS = ","
-    words["plain"] = "plain C"; words["tuned"] = "tuned C"; words["turn"] = "**proved `turn`**"
+    words["plain"] = "plain C"; words["steps"] = "plain C, by value"; words["tuned"] = "tuned C"; words["turn"] = "**proved `turn`**"
     words["step"] = "**proved `step`**"; words["bdb"] = "Berkeley DB's lock table"
     split("refused done pressed", mixes, " ")
     heads["refused"] = "refused-heavy"; heads["done"] = "done-heavy"; heads["pressed"] = "pressed"
