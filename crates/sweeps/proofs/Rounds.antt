@@ -17,7 +17,7 @@ use Rattle.house.proofs.Tests.{is, or-false}
 use Rattle.house.proofs.Lists.{Sofar, sofar-skip, sofar-map, sofar-still}
 use Rattle.house.proofs.Cells.{place-of, item-of}
 use Rattle.ruling.specs.Ruling.{endedItem}
-use Rattle.sweeps.specs.Sweep.{ofHouse, convertedCell, convertedOn}
+use Rattle.sweeps.specs.Sweep.{ofHouse, swept, convertedCell, convertedOn}
 
 -- the n-th cell through f, if it is of a place that a house has
 abbrev pub cellwise : (ℕ → ℕ → ℕ → ℕ) → ℕ → ℕ → ℕ
@@ -75,8 +75,8 @@ module _ (old : List ℕ) (me i : ℕ) (b : i < 64) {cells : List ℕ} (s : Sofa
   unfolding convertedOn
   elsewhere n x d = kept (convertedOn me i) n x (rw (ne-eqb (n % 64) i d))
 
-  pub certified-item : has Write (getD cells (me * 64 + i) 0) ≡ true → Sofar 0 (λ n. n % 64) (cellwise (certifiedCell old me)) (i + 1) old (mapCells (ofHouse (convertedOn me i)) cells)
-  unfolding mapCells
+  pub certified-item : has Write (getD cells (me * 64 + i) 0) ≡ true → Sofar 0 (λ n. n % 64) (cellwise (certifiedCell old me)) (i + 1) old (swept (convertedOn me i) cells)
+  unfolding swept mapCells
   certified-item w = sofar-map 0 (λ n. n % 64) (cellwise (certifiedCell old me)) i _ s (λ n x e. written-on n x w e) elsewhere
 
   pub passed-item : has Write (getD cells (me * 64 + i) 0) ≡ false → Sofar 0 (λ n. n % 64) (cellwise (certifiedCell old me)) (i + 1) old cells

@@ -1,16 +1,17 @@
-// What a change does to the cells, where they lie, and to the items: one mark, and three sweeps. Each is for the transaction at
-// the place `me`, and does nothing for a place, or an item, that no house has.
+// What a change does to the cells, where they lie, and to the items: one mark, and three sweeps, for the transaction at place `me`.
+// Any number names a place and an item: it is taken modulo 32 and 64, as the desk takes the level and the item of a request.
 
 ghost use mathlib.Core.Path.{_≡_};
 ghost use mathlib.Core.Bool.{cond, _||_};
-ghost use Prim.Native.Nat.{_<_};
+ghost use Prim.Native.Nat.{_<_, _%_};
 ghost use lib.ListN.{getD};
 ghost use Rattle.house.specs.declared.Mark.the-variants.{Write, Certify};
-ghost use Rattle.house.specs.Cell.{has, mapCells, holds};
+ghost use Rattle.house.specs.Search.{mapFrom};
+ghost use Rattle.house.specs.Cell.{has, withMark, holds};
 ghost use Rattle.house.specs.House.{above, levelOf, withPending};
 ghost use Rattle.house.specs.Rules.{certifiedCell, clearedCell, grown};
 ghost use Rattle.ruling.specs.Ruling.{endedItem};
-ghost use Rattle.sweeps.specs.Sweep.{markedAt, swept, ofHouse, convertedCell, convertedOn, endedItems};
+ghost use Rattle.sweeps.specs.Sweep.{swept, convertedCell, convertedOn};
 use house::Item;
 use house::Mark;
 use parts::grow;
@@ -19,13 +20,11 @@ use parts::with_mark;
 use parts::without_mark;
 
 pub fn mark_cell(cells: &mut [u8; 2048], m: Mark, me: usize, i: usize)
-    ensures { λ r. ⌜ now (cells .exit) ≡ markedAt m (now (cells .entry)) me i ⌝ }
+    ensures { λ r. ⌜ now (cells .exit) ≡ withMark m (now (cells .entry)) (me % 32) (i % 64) ⌝ }
 {
-    if (me < 32) & (i < 64) {
-        let n = me * 64 + i;
-        let c = cells[n];
-        cells[n] = with_mark(m, c);
-    }
+    let n = me % 32 * 64 + i % 64;
+    let c = cells[n];
+    cells[n] = with_mark(m, c);
 }
 
 fn is_above(p: usize, me: usize) -> bool
@@ -50,7 +49,7 @@ fn convert(me: usize, p: usize, c: u8) -> u8
 
 fn certify_item(cells: &mut [u8; 2048], me: usize, i: usize)
     requires { ⌜ i < 64 ⌝ }
-    ensures { λ r. ⌜ now (cells .exit) ≡ mapCells (ofHouse (convertedOn me i)) (now (cells .entry)) ⌝ }
+    ensures { λ r. ⌜ now (cells .exit) ≡ swept (convertedOn me i) (now (cells .entry)) ⌝ }
 {
     for p in 0..32 {
         let n = p * 64 + i;
@@ -68,26 +67,22 @@ fn is_written(cells: &[u8; 2048], n: usize) -> bool
 }
 
 pub fn certify_cells(cells: &mut [u8; 2048], me: usize)
-    ensures { λ r. ⌜ now (cells .exit) ≡ swept me (certifiedCell (now (cells .entry)) me) (now (cells .entry)) ⌝ }
+    ensures { λ r. ⌜ now (cells .exit) ≡ swept (certifiedCell (now (cells .entry)) (me % 32)) (now (cells .entry)) ⌝ }
 {
-    if 32 <= me {
-        return;
-    }
+    let here = me % 32;
     for i in 0..64 {
-        if is_written(cells, me * 64 + i) {
-            certify_item(cells, me, i);
+        if is_written(cells, here * 64 + i) {
+            certify_item(cells, here, i);
         }
     }
 }
 
 pub fn clear_cells(cells: &mut [u8; 2048], me: usize)
-    ensures { λ r. ⌜ now (cells .exit) ≡ swept me (clearedCell me) (now (cells .entry)) ⌝ }
+    ensures { λ r. ⌜ now (cells .exit) ≡ swept (clearedCell (me % 32)) (now (cells .entry)) ⌝ }
 {
-    if 32 <= me {
-        return;
-    }
+    let here = me % 32;
     for i in 0..64 {
-        cells[me * 64 + i] = 0;
+        cells[here * 64 + i] = 0;
     }
 }
 
@@ -141,16 +136,14 @@ fn has_written(cells: &[u8; 2048], me: usize, i: usize) -> bool
 
 // Most rows stay: only a written one is stored.
 pub fn end_items(items: [Item; 64], cells: &[u8; 2048], me: usize, commits: bool) -> [Item; 64]
-    ensures { λ r. ⌜ r ≡ endedItems commits (now (cells .entry)) me items ⌝ }
+    ensures { λ r. ⌜ r ≡ mapFrom 0 (endedItem commits (now (cells .entry)) (me % 32)) items ⌝ }
 {
-    if 32 <= me {
-        return items;
-    }
+    let here = me % 32;
     let mut out = items;
     for i in 0..64 {
-        if has_written(cells, me, i) {
+        if has_written(cells, here, i) {
             let x = out[i];
-            out[i] = end_item(cells, me, commits, i, x);
+            out[i] = end_item(cells, here, commits, i, x);
         }
     }
     out

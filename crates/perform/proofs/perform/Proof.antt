@@ -1,4 +1,5 @@
 use Prim.Native.Nat.{_<_}
+use native.Mathlib.Nat.{mod-eq-of-lt}
 use native.Mathlib.Omega.{arith}
 use mathlib.Core.Bool.{true, false}
 use mathlib.Core.Path.{_≡_, sym, ap, _∙_}
@@ -8,7 +9,7 @@ use borrow.Author.Needs.{needs}
 use Rattle.house.proofs.Tests.{both-below}
 use Rattle.house.specs.Rules.{begun, readBy, writtenBy, certifiedBy, left}
 use Rattle.ruling.specs.Ruling.{fits, effect, effectIfFit}
-use Rattle.sweeps.proofs.Whole.{marked-whole, swept-whole, ended-whole}
+use Rattle.sweeps.proofs.Whole.{swept-whole}
 use Rattle.perform.proofs.perform.Statement.{statement}
 use Rattle.perform.proofs.perform.Tie as tie
 
@@ -155,19 +156,19 @@ returns-3 c = rw (fitting (c .before .before .before .before .before .before), c
 
 returns-4 : tie.Need-returns-4
 unfolding readBy
-returns-4 c = rw (fitting (c .before .before .before .before .before), c .before .before .before .change2 .given .1, c .mark-cell .ensures, marked-whole _ _ _ _ (read-there (c .before .before) .0) (read-there (c .before .before) .1))
+returns-4 c = rw (fitting (c .before .before .before .before .before), c .before .before .before .change2 .given .1, c .mark-cell .ensures, mod-eq-of-lt (read-there (c .before .before) .0), mod-eq-of-lt (read-there (c .before .before) .1))
 
 returns-5 : tie.Need-returns-5
 unfolding writtenBy
-returns-5 c = rw (fitting (c .before .before .before .before .before .before .before), c .before .before .before .before .before .change3 .given .1, c .before .before .mark-cell2 .ensures, marked-whole _ _ _ _ (writes (c .before .before .before .before) .0) (writes (c .before .before .before .before) .1), c .with-pending .ensures)
+returns-5 c = rw (fitting (c .before .before .before .before .before .before .before), c .before .before .before .before .before .change3 .given .1, c .before .before .mark-cell2 .ensures, mod-eq-of-lt (writes (c .before .before .before .before) .0), mod-eq-of-lt (writes (c .before .before .before .before) .1), c .with-pending .ensures)
 
 returns-6 : tie.Need-returns-6
 unfolding certifiedBy
-returns-6 c = rw (fitting (c .before .before .before .before .before .before .before), c .before .before .before .before .before .change4 .given .1, c .before .before .certify-cells .ensures, swept-whole _ _ _ (certifies (c .before .before .before .before)) (long (c .before .before .before .before .before .before .before .before .before)), c .certified .ensures)
+returns-6 c = rw (fitting (c .before .before .before .before .before .before .before), c .before .before .before .before .before .change4 .given .1, c .before .before .certify-cells .ensures, mod-eq-of-lt (certifies (c .before .before .before .before)), swept-whole _ _ (long (c .before .before .before .before .before .before .before .before .before)), c .certified .ensures)
 
 returns-7 : tie.Need-returns-7
 unfolding left
-returns-7 c = rw (fitting (c .before .before .before .before .before .before .before .before .before .before), c .before .before .before .before .before .before .before .before .change5 .given .1, c .before .before .before .end-items .ensures, ended-whole _ _ _ _ (ends (c .before .before .before .before .before .before .before)), c .before .clear-cells .ensures, swept-whole _ _ _ (ends (c .before .before .before .before .before .before .before)) (long (c .before .before .before .before .before .before .before .before .before .before .before .before)), c .left-free .ensures)
+returns-7 c = rw (fitting (c .before .before .before .before .before .before .before .before .before .before), c .before .before .before .before .before .before .before .before .change5 .given .1, c .before .before .before .end-items .ensures, c .before .clear-cells .ensures, mod-eq-of-lt (ends (c .before .before .before .before .before .before .before)), swept-whole _ _ (long (c .before .before .before .before .before .before .before .before .before .before .before .before)), c .left-free .ensures)
 
 pub perform-spec : {M : Type 1} → statement M
 perform-spec =

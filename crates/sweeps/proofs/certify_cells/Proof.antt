@@ -2,7 +2,6 @@ use Prim.Native.Nat.{_-_, _%_}
 use native.Mathlib.Omega.{arith}
 use mathlib.Core.Logic.{⊎-elim}
 use mathlib.Core.Path.{sym, _∙_}
-use borrow.Author.Tests.{lt-ltb, le-ltb}
 use borrow.Author.Needs.{needs}
 use Rattle.house.proofs.Lists.{Sofar, sofar-none, sofar-all}
 use Rattle.house.specs.Cell.{mapCells}
@@ -13,14 +12,10 @@ use Rattle.sweeps.proofs.certify_cells.Statement.{statement}
 use Rattle.sweeps.proofs.certify_cells.Tie as tie
 
 abbrev Inv-loop : tie.InvT-loop
-Inv-loop cells₀ me i₀ cells i = Sofar 0 (λ n. n % 64) (cellwise (certifiedCell cells₀ me)) i cells₀ cells
+Inv-loop cells₀ me here i₀ cells i = Sofar 0 (λ n. n % 64) (cellwise (certifiedCell cells₀ here)) i cells₀ cells
 
 abbrev μ-loop : tie.MeasureT-loop
-μ-loop cells₀ me i₀ cells i = 64 - i
-
-returns : tie.Need-returns Inv-loop μ-loop
-unfolding swept
-returns c = rw (le-ltb _ _ (c .if1 .taken))
+μ-loop cells₀ me here i₀ cells i = 64 - i
 
 loop-holds : tie.Need-loop-holds Inv-loop μ-loop
 loop-holds c = sofar-none _ _ _ _
@@ -49,11 +44,11 @@ loop-again c = let s = c .before .before .before .before .loop .inv in
     ⊎-elim
     (λ w. rw (w .3 ∙ w .2 .ensures) (certified-item _ _ _ (omega arith) s (e ∙ w .0 .taken)))
     (λ w. rw (w .1) (passed-item _ _ _ (omega arith) s (e ∙ w .0 .left)))
-    (c .if2 .came)
+    (c .if1 .came)
 
-returns-2 : tie.Need-returns-2 Inv-loop μ-loop
+returns : tie.Need-returns Inv-loop μ-loop
 unfolding swept mapCells
-returns-2 c = rw (lt-ltb _ _ (c .before .before .if1 .left)) (sofar-all _ _ _ _ (c .before .loop .inv) (λ n h. omega arith))
+returns c = sofar-all _ _ _ _ (c .before .loop .inv) (λ n h. omega arith)
 
 pub certify-cells-spec : {M : Type 1} → statement M
 certify-cells-spec =
@@ -61,7 +56,6 @@ certify-cells-spec =
     (tie.spec
     Inv-loop
     μ-loop
-    returns
     loop-holds
     mul-is-written
     add-is-written
@@ -70,4 +64,4 @@ certify-cells-spec =
     add-i
     loop-less
     loop-again
-    returns-2)
+    returns)

@@ -1,4 +1,5 @@
 use Prim.Native.Nat.{ℕ, _+_, _-_, _*_, _<_, _≤_, min}
+use native.Mathlib.Nat.{mod-eq-of-lt}
 use native.Mathlib.Omega.{arith}
 use mathlib.Core.Bool.{true}
 use mathlib.Core.List.{List}
@@ -15,7 +16,7 @@ use Rattle.ruling.proofs.Steps.{ruled-steps, ruled-fits}
 use Rattle.ruling.specs.Judged.{Judged}
 use Rattle.ruling.specs.Ruling.{fits, effect, ruled}
 use Rattle.ruling.specs.declared.Change.{Change}
-use Rattle.sweeps.proofs.Whole.{marked-whole, swept-whole, ended-whole}
+use Rattle.sweeps.proofs.Whole.{swept-whole}
 use Rattle.desk.proofs.Laws.{next, housed-next, written-next, finally-cells}
 use Rattle.desk.proofs.running.turn.Statement.{statement}
 use Rattle.desk.proofs.running.turn.Tie as tie
@@ -278,7 +279,7 @@ loop-less-3 c = less (c .before .before .before .before .before)
 
 loop-again-3 : tie.Need-loop-again-3 Inv-loop μ-loop
 unfolding readBy
-loop-again-3 c = let s = c .before .before .before .before .before in (more s, long-as-lent s, rw (← made s _ (c .before .before .before .change2 .given .1), c .mark-cell .ensures, marked-whole _ _ _ _ (read-there (c .before .before .before) .0) (read-there (c .before .before .before) .1)), wrote s)
+loop-again-3 c = let s = c .before .before .before .before .before in (more s, long-as-lent s, rw (← made s _ (c .before .before .before .change2 .given .1), c .mark-cell .ensures, mod-eq-of-lt (read-there (c .before .before .before) .0), mod-eq-of-lt (read-there (c .before .before .before) .1)), wrote s)
 
 enum-known-change-3 : tie.Need-enum-known-change-3 Inv-loop μ-loop
 enum-known-change-3 c = search needs
@@ -306,7 +307,7 @@ loop-less-4 c = less (c .before .before .before .before .before .before .before)
 
 loop-again-4 : tie.Need-loop-again-4 Inv-loop μ-loop
 unfolding writtenBy
-loop-again-4 c = let s = c .before .before .before .before .before .before .before in (more s, long-as-lent s, rw (← made s _ (c .before .before .before .before .before .change3 .given .1), c .before .before .mark-cell2 .ensures, marked-whole _ _ _ _ (writes (c .before .before .before .before .before) .0) (writes (c .before .before .before .before .before) .1), c .with-pending .ensures), wrote s)
+loop-again-4 c = let s = c .before .before .before .before .before .before .before in (more s, long-as-lent s, rw (← made s _ (c .before .before .before .before .before .change3 .given .1), c .before .before .mark-cell2 .ensures, mod-eq-of-lt (writes (c .before .before .before .before .before) .0), mod-eq-of-lt (writes (c .before .before .before .before .before) .1), c .with-pending .ensures), wrote s)
 
 enum-known-change-4 : tie.Need-enum-known-change-4 Inv-loop μ-loop
 enum-known-change-4 c = search needs
@@ -334,7 +335,7 @@ loop-less-5 c = less (c .before .before .before .before .before .before .before)
 
 loop-again-5 : tie.Need-loop-again-5 Inv-loop μ-loop
 unfolding certifiedBy
-loop-again-5 c = let s = c .before .before .before .before .before .before .before in (more s, long-as-lent s, rw (← made s _ (c .before .before .before .before .before .change4 .given .1), c .before .before .certify-cells .ensures, swept-whole _ _ _ (certifies (c .before .before .before .before .before)) (long s), c .certified .ensures), wrote s)
+loop-again-5 c = let s = c .before .before .before .before .before .before .before in (more s, long-as-lent s, rw (← made s _ (c .before .before .before .before .before .change4 .given .1), c .before .before .certify-cells .ensures, mod-eq-of-lt (certifies (c .before .before .before .before .before)), swept-whole _ _ (long s), c .certified .ensures), wrote s)
 
 enum-known-change-5 : tie.Need-enum-known-change-5 Inv-loop μ-loop
 enum-known-change-5 c = search needs
@@ -359,7 +360,7 @@ loop-less-6 c = less (c .before .before .before .before .before .before .before 
 
 loop-again-6 : tie.Need-loop-again-6 Inv-loop μ-loop
 unfolding left
-loop-again-6 c = let s = c .before .before .before .before .before .before .before .before .before .before in (more s, long-as-lent s, rw (← made s _ (c .before .before .before .before .before .before .before .before .change5 .given .1), c .before .before .before .end-items .ensures, ended-whole _ _ _ _ (ends (c .before .before .before .before .before .before .before .before)), c .before .clear-cells .ensures, swept-whole _ _ _ (ends (c .before .before .before .before .before .before .before .before)) (long s), c .left-free .ensures), wrote s)
+loop-again-6 c = let s = c .before .before .before .before .before .before .before .before .before .before in (more s, long-as-lent s, rw (← made s _ (c .before .before .before .before .before .before .before .before .change5 .given .1), c .before .before .before .end-items .ensures, c .before .clear-cells .ensures, mod-eq-of-lt (ends (c .before .before .before .before .before .before .before .before)), swept-whole _ _ (long s), c .left-free .ensures), wrote s)
 
 same-length : tie.Need-same-length Inv-loop μ-loop
 same-length c = search needs
