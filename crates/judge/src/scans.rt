@@ -26,7 +26,32 @@ fn another_holds(cells: &[u8; 2048], m: Mark, me: usize, i: usize, p: usize) -> 
     (p != me) & holds_mark(cells, m, p, i)
 }
 
+// Another than `me` holds the mark on item i. Where `me` does not hold it, nobody need be told from the others, and the plain scan
+// is half as long: such a scan and the exact one stand side by side here, and again for the two marks of a claim. Each is called
+// from one place, so that the judge stays one piece of code.
 pub(crate) fn other_holds(cells: &[u8; 2048], m: Mark, me: usize, i: usize) -> bool
+    requires { ⌜ (me < 32) × (i < 64) ⌝ }
+    ensures { λ r. ⌜ r ≡ otherHolds (now (cells .entry)) m me i ⌝ }
+{
+    if holds_mark(cells, m, me, i) {
+        some_other_holds(cells, m, me, i)
+    } else {
+        anybody_holds(cells, m, i)
+    }
+}
+
+fn anybody_holds(cells: &[u8; 2048], m: Mark, i: usize) -> bool
+    requires { ⌜ i < 64 ⌝ }
+    ensures { λ r. ⌜ r ≡ any (λ p. holds (now (cells .entry)) m p i) 0 32 ⌝ }
+{
+    let mut hit = false;
+    for p in 0..32 {
+        hit = hit | holds_mark(cells, m, p, i);
+    }
+    hit
+}
+
+fn some_other_holds(cells: &[u8; 2048], m: Mark, me: usize, i: usize) -> bool
     requires { ⌜ i < 64 ⌝ }
     ensures { λ r. ⌜ r ≡ otherHolds (now (cells .entry)) m me i ⌝ }
 {
@@ -37,15 +62,37 @@ pub(crate) fn other_holds(cells: &[u8; 2048], m: Mark, me: usize, i: usize) -> b
     hit
 }
 
-fn another_claims(cells: &[u8; 2048], me: usize, i: usize, p: usize) -> bool
-    requires { ⌜ (p < 32) × (i < 64) ⌝ }
-    ensures { λ r. ⌜ r ≡ (anotherHolds (now (cells .entry)) Write me i p || anotherHolds (now (cells .entry)) Certify me i p) ⌝ }
+// Another claims item i: it holds write or certify.
+pub(crate) fn other_claims(cells: &[u8; 2048], me: usize, i: usize) -> bool
+    requires { ⌜ (me < 32) × (i < 64) ⌝ }
+    ensures { λ r. ⌜ r ≡ (otherHolds (now (cells .entry)) Write me i || otherHolds (now (cells .entry)) Certify me i) ⌝ }
 {
-    another_holds(cells, Mark::Write, me, i, p) | another_holds(cells, Mark::Certify, me, i, p)
+    if claims(cells, me, i) {
+        some_other_claims(cells, me, i)
+    } else {
+        anybody_claims(cells, i)
+    }
 }
 
-// Write and certify in one sweep.
-pub(crate) fn other_claims(cells: &[u8; 2048], me: usize, i: usize) -> bool
+fn claims(cells: &[u8; 2048], p: usize, i: usize) -> bool
+    requires { ⌜ (p < 32) × (i < 64) ⌝ }
+    ensures { λ r. ⌜ r ≡ (holds (now (cells .entry)) Write p i || holds (now (cells .entry)) Certify p i) ⌝ }
+{
+    holds_mark(cells, Mark::Write, p, i) | holds_mark(cells, Mark::Certify, p, i)
+}
+
+fn anybody_claims(cells: &[u8; 2048], i: usize) -> bool
+    requires { ⌜ i < 64 ⌝ }
+    ensures { λ r. ⌜ r ≡ any (λ p. holds (now (cells .entry)) Write p i || holds (now (cells .entry)) Certify p i) 0 32 ⌝ }
+{
+    let mut hit = false;
+    for p in 0..32 {
+        hit = hit | claims(cells, p, i);
+    }
+    hit
+}
+
+fn some_other_claims(cells: &[u8; 2048], me: usize, i: usize) -> bool
     requires { ⌜ i < 64 ⌝ }
     ensures { λ r. ⌜ r ≡ (otherHolds (now (cells .entry)) Write me i || otherHolds (now (cells .entry)) Certify me i) ⌝ }
 {
@@ -54,6 +101,13 @@ pub(crate) fn other_claims(cells: &[u8; 2048], me: usize, i: usize) -> bool
         hit = hit | another_claims(cells, me, i, p);
     }
     hit
+}
+
+fn another_claims(cells: &[u8; 2048], me: usize, i: usize, p: usize) -> bool
+    requires { ⌜ (p < 32) × (i < 64) ⌝ }
+    ensures { λ r. ⌜ r ≡ (anotherHolds (now (cells .entry)) Write me i p || anotherHolds (now (cells .entry)) Certify me i p) ⌝ }
+{
+    another_holds(cells, Mark::Write, me, i, p) | another_holds(cells, Mark::Certify, me, i, p)
 }
 
 fn peer_holds(cells: &[u8; 2048], m: Mark, me: usize, i: usize) -> bool

@@ -49,7 +49,7 @@ unfolding readRuled
 returns-4 c = simp (readRuled, sym (c .before .before .before .before .before .before .before .before .lacks-item .ensures) ∙ c .before .before .before .before .before .before .before .if1 .left, sym (c .before .before .before .before .before .before .does-not-dominate .ensures) ∙ c .before .before .before .before .before .if2 .left, sym (c .before .before .before .before .is-signalled .ensures) ∙ c .before .before .before .if3 .left, sym (c .before .before .is-certified .ensures) ∙ c .before .if4 .taken, c .refuse4 .ensures)
 
 other-holds-requires : tie.Need-other-holds-requires
-other-holds-requires c κs = row-there _ _ (sym (c .before .before .before .before .before .before .before .lacks-item .ensures) ∙ c .before .before .before .before .before .before .if1 .left)
+other-holds-requires c κs = (search needs, row-there _ _ (sym (c .before .before .before .before .before .before .before .lacks-item .ensures) ∙ c .before .before .before .before .before .before .if1 .left))
 
 refuse-requires-5 : tie.Need-refuse-requires-5
 refuse-requires-5 c κs = search needs

@@ -1,40 +1,30 @@
-use Prim.Native.Nat.{_-_}
-use native.Mathlib.Omega.{arith}
-use mathlib.Core.Bool.{_||_}
-use mathlib.Core.Path.{_≡_, refl, ap}
+use mathlib.Core.Path.{sym, _∙_}
 use borrow.Author.Needs.{needs}
-use Rattle.house.proofs.Searches.{folded, fold-ended}
-use Rattle.house.specs.Cell.{anotherHolds, otherHolds}
-use Rattle.house.specs.Search.{any}
+use Rattle.house.proofs.Cells.{others-only}
 use Rattle.judge.proofs.scans.other_holds.Statement.{statement}
 use Rattle.judge.proofs.scans.other_holds.Tie as tie
 
-abbrev Inv-loop : tie.InvT-loop
-Inv-loop cells m me i hit₀ p₀ hit p = otherHolds cells m me i ≡ (hit || any (anotherHolds cells m me i) p (32 - p))
+holds-mark-requires : tie.Need-holds-mark-requires
+holds-mark-requires c κs = search needs
 
-abbrev μ-loop : tie.MeasureT-loop
-μ-loop cells m me i hit₀ p₀ hit p = 32 - p
+some-other-holds-requires : tie.Need-some-other-holds-requires
+some-other-holds-requires c κs = search needs
 
-loop-holds : tie.Need-loop-holds Inv-loop μ-loop
-unfolding otherHolds
-loop-holds c = refl
+anybody-holds-requires : tie.Need-anybody-holds-requires
+anybody-holds-requires c κs = search needs
 
-another-holds-requires : tie.Need-another-holds-requires Inv-loop μ-loop
-another-holds-requires c κs = search needs
+returns : tie.Need-returns
+returns c = search needs
 
-add-p : tie.Need-add-p Inv-loop μ-loop
-add-p c = search needs
-
-loop-less : tie.Need-loop-less Inv-loop μ-loop
-loop-less c = search needs
-
-loop-again : tie.Need-loop-again Inv-loop μ-loop
-loop-again c = folded _ _ (c .before .before .loop .hit) _ _ _ (c .before .before .loop .inv) (omega arith) (ap (λ b. c .before .before .loop .hit || b) (c .another-holds .ensures))
-
-returns : tie.Need-returns Inv-loop μ-loop
-returns c = fold-ended _ _ (c .before .loop .hit) (c .before .loop .hit) _ _ (c .before .loop .inv) (omega arith)
+returns-2 : tie.Need-returns-2
+returns-2 c = c .anybody-holds .ensures ∙ sym (others-only _ _ _ _ (sym (c .before .before .holds-mark .ensures) ∙ c .before .if1 .left))
 
 pub other-holds-spec : {M : Type 1} → statement M
 other-holds-spec =
     tie.close
-    (tie.spec Inv-loop μ-loop loop-holds another-holds-requires add-p loop-less loop-again returns)
+    (tie.spec
+    holds-mark-requires
+    some-other-holds-requires
+    anybody-holds-requires
+    returns
+    returns-2)

@@ -1,0 +1,39 @@
+use Prim.Native.Nat.{_-_}
+use native.Mathlib.Omega.{arith}
+use mathlib.Core.Bool.{_||_}
+use mathlib.Core.Path.{_≡_, refl, ap}
+use borrow.Author.Needs.{needs}
+use Rattle.house.proofs.Searches.{folded, fold-ended}
+use Rattle.house.specs.Cell.{holds}
+use Rattle.house.specs.Search.{any}
+use Rattle.judge.proofs.scans.anybody_holds.Statement.{statement}
+use Rattle.judge.proofs.scans.anybody_holds.Tie as tie
+
+abbrev Inv-loop : tie.InvT-loop
+Inv-loop cells m i hit₀ p₀ hit p = any (λ p. holds cells m p i) 0 32 ≡ (hit || any (λ p. holds cells m p i) p (32 - p))
+
+abbrev μ-loop : tie.MeasureT-loop
+μ-loop cells m i hit₀ p₀ hit p = 32 - p
+
+loop-holds : tie.Need-loop-holds Inv-loop μ-loop
+loop-holds c = refl
+
+holds-mark-requires : tie.Need-holds-mark-requires Inv-loop μ-loop
+holds-mark-requires c κs = search needs
+
+add-p : tie.Need-add-p Inv-loop μ-loop
+add-p c = search needs
+
+loop-less : tie.Need-loop-less Inv-loop μ-loop
+loop-less c = search needs
+
+loop-again : tie.Need-loop-again Inv-loop μ-loop
+loop-again c = folded _ _ (c .before .before .loop .hit) _ _ _ (c .before .before .loop .inv) (omega arith) (ap (λ b. c .before .before .loop .hit || b) (c .holds-mark .ensures))
+
+returns : tie.Need-returns Inv-loop μ-loop
+returns c = fold-ended _ _ (c .before .loop .hit) (c .before .loop .hit) _ _ (c .before .loop .inv) (omega arith)
+
+pub anybody-holds-spec : {M : Type 1} → statement M
+anybody-holds-spec =
+    tie.close
+    (tie.spec Inv-loop μ-loop loop-holds holds-mark-requires add-p loop-less loop-again returns)
