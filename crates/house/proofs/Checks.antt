@@ -2,7 +2,7 @@
 -- Assumes nothing.
 use Prim.Native.Nat.{ℕ, _≤_, _<_}
 use native.Mathlib.Omega.{arith}
-use mathlib.Core.Path.{_≡_, refl, ap}
+use mathlib.Core.Path.{_≡_, refl, ap, _∙_}
 use mathlib.Core.Logic.{_≢_, inl, inr}
 use mathlib.Core.Bool.{Bool, true, false, _&&_, not}
 use mathlib.Core.List.{List, [], _∷_}
@@ -11,10 +11,13 @@ use borrow.Author.Tests.{eq-eqb, ne-eqb, ltb-false}
 use Rattle.house.specs.declared.Found.{Found}
 use Rattle.house.specs.declared.Found.the-variants.{At, Nobody}
 use Rattle.house.specs.declared.House.{House}
+use Rattle.house.specs.declared.Mark.the-variants.{Write}
 use Rattle.house.specs.declared.Request.{Request}
-use Rattle.house.specs.Search.{nobody}
-use Rattle.house.specs.Rules.{asker, noOperation, noLevel, unusedSet, unknown, noItem, forbidden, stopped, untimely, wornOut, crowded, ticketless, delayed, checks, foremost, verdict}
+use Rattle.house.specs.Search.{any, nobody}
+use Rattle.house.specs.Cell.{holds}
+use Rattle.house.specs.Rules.{asker, noOperation, noLevel, unusedSet, unknown, noItem, forbidden, stopped, untimely, wornOut, crowded, ticketless, delayed, checks, foremost, verdict, waitsAt}
 use Rattle.house.proofs.Tests.{is, clash, and-true, and-right-false, not-of}
+use Rattle.house.proofs.Searches.{scan-same, any-none}
 
 -- a list of checks none of which applies, and one with no number 0 in it
 abbrev pub NoneApplies : List (ℕ × Bool) → Type 0
@@ -81,3 +84,8 @@ pub asker-known : (h : House) (q : Request) → q .operation ≢ 0 → verdict h
 unfolding unknown
 asker-known h q o e =
     somebody (asker h q) (and-right-false (not (eqb (q .operation) 0)) _ (not-of _ (ne-eqb _ 0 o)) (clear h q e .known))
+
+-- "With nothing written it is done at once."
+pub nothing-written : (cells : List ℕ) (me : ℕ) → any (holds cells Write me) 0 64 ≡ false → any (waitsAt cells me) 0 64 ≡ false
+unfolding waitsAt
+nothing-written cells me e = scan-same (waitsAt cells me) (holds cells Write me) _ _ 0 64 (λ i a b. rw (any-none (holds cells Write me) 0 64 e i a b)) ∙ e

@@ -33,6 +33,11 @@ module _ {A : Type 0} where
   mapFrom-same k f g [] e = refl
   mapFrom-same k f g (x ∷ xs) e = ap₂ _∷_ (e k x (omega arith)) (mapFrom-same (suc k) f g xs (λ n y h. e n y (omega arith)))
 
+  pub mapFrom-kept : (k : ℕ) (f : ℕ → A → A) (l : List A) → ((n : ℕ) (x : A) → f n x ≡ x) → mapFrom k f l ≡ l
+  unfolding mapFrom
+  mapFrom-kept k f [] e = refl
+  mapFrom-kept k f (x ∷ xs) e = ap₂ _∷_ (e k x) (mapFrom-kept (suc k) f xs e)
+
 -- the elements whose key is below i have been through f; key n is the round of the loop that handles element n
 pub record Sofar {A : Type 0} (d : A) (key : ℕ → ℕ) (f : ℕ → A → A) (i : ℕ) (l out : List A) : Type 0 where
   pub long : length out ≡ length l

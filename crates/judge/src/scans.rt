@@ -11,6 +11,7 @@ ghost use Rattle.house.specs.declared.Mark.the-variants.{Write, Certify};
 use house::Found;
 use house::Mark;
 use parts::has_mark;
+use parts::holds_any;
 
 pub(crate) fn holds_mark(cells: &[u8; 2048], m: Mark, p: usize, i: usize) -> bool
     requires { ⌜ (p < 32) × (i < 64) ⌝ }
@@ -129,10 +130,14 @@ fn waits_at(cells: &[u8; 2048], me: usize, i: usize) -> bool
     holds_mark(cells, Mark::Write, me, i) && peer_holds(cells, Mark::Read, me, i)
 }
 
+// "With nothing written it is done at once."
 pub(crate) fn must_wait(cells: &[u8; 2048], me: usize) -> bool
     requires { ⌜ me < 32 ⌝ }
     ensures { λ r. ⌜ r ≡ any (waitsAt (now (cells .entry)) me) 0 64 ⌝ }
 {
+    if !holds_any(cells, Mark::Write, me) {
+        return false;
+    }
     for i in 0..64 {
         if waits_at(cells, me, i) {
             return true;
@@ -145,11 +150,7 @@ pub(crate) fn is_signalled(cells: &[u8; 2048], me: usize) -> bool
     requires { ⌜ me < 32 ⌝ }
     ensures { λ r. ⌜ r ≡ isSignalled (now (cells .entry)) me ⌝ }
 {
-    let mut hit = false;
-    for i in 0..64 {
-        hit = hit | holds_mark(cells, Mark::Signalled, me, i);
-    }
-    hit
+    holds_any(cells, Mark::Signalled, me)
 }
 
 pub(crate) fn first_signalled(cells: &[u8; 2048], me: usize) -> Found

@@ -4,7 +4,9 @@
 mod rows;
 
 ghost use mathlib.Core.Path.{_≡_};
-ghost use Rattle.house.specs.Cell.{weight, has, marked, unmarked};
+ghost use Prim.Native.Nat.{_%_};
+ghost use Rattle.house.specs.Search.{any};
+ghost use Rattle.house.specs.Cell.{weight, has, marked, unmarked, holds};
 ghost use Rattle.house.specs.Rules.{grown, ticketAfter, said, replied};
 use house::Answer;
 use house::Mark;
@@ -42,6 +44,19 @@ pub fn without_mark(m: Mark, c: u8) -> u8
     ensures { λ r. ⌜ r ≡ unmarked m c ⌝ }
 {
     if has_mark(m, c) { c - weigh(m) } else { c }
+}
+
+// The transaction at place `me`, modulo 32, has the mark on some item. Without a way out of its loop the scan is compiled to a few
+// wide instructions.
+pub fn holds_any(cells: &[u8; 2048], m: Mark, me: usize) -> bool
+    ensures { λ r. ⌜ r ≡ any (holds (now (cells .entry)) m (me % 32)) 0 64 ⌝ }
+{
+    let here = me % 32;
+    let mut hit = false;
+    for i in 0..64 {
+        hit = hit | has_mark(m, cells[here * 64 + i]);
+    }
+    hit
 }
 
 pub fn grow(version: u32) -> u32

@@ -2,7 +2,7 @@
 -- Assumes nothing.
 use Prim.Native.Nat.{ℕ, _+_, _*_, _/_, _%_, _<_, _≤_}
 use native.Mathlib.Omega.{arith}
-use mathlib.Core.Path.{_≡_, refl}
+use mathlib.Core.Path.{_≡_, refl, sym}
 use mathlib.Core.Logic.{_≢_, inl, inr}
 use mathlib.Core.Bool.{Bool, true, false, _||_}
 use mathlib.Core.List.{List}
@@ -11,10 +11,12 @@ use lib.Dec.{ltb}
 use borrow.Author.Tests.{eq-eqb, ne-eqb, lt-ltb, le-ltb}
 use Rattle.house.specs.declared.Item.{Item}
 use Rattle.house.specs.declared.Mark.the-variants.{Write, Certify}
+use Rattle.house.specs.Search.{any}
 use Rattle.house.specs.Cell.{has, cellAt, holds, mapCells}
 use Rattle.house.specs.Rules.{certifiedCell, clearedCell, committedItem, abortedItem}
 use Rattle.house.proofs.Tests.{is, or-false}
-use Rattle.house.proofs.Lists.{Sofar, sofar-skip, sofar-map, sofar-still}
+use Rattle.house.proofs.Searches.{any-none}
+use Rattle.house.proofs.Lists.{mapFrom-kept, Sofar, sofar-skip, sofar-map, sofar-still}
 use Rattle.house.proofs.Cells.{place-of, item-of}
 use Rattle.ruling.specs.Ruling.{endedItem}
 use Rattle.sweeps.specs.Sweep.{ofHouse, swept, convertedCell, convertedOn}
@@ -81,6 +83,11 @@ module _ (old : List ℕ) (me i : ℕ) (b : i < 64) {cells : List ℕ} (s : Sofa
 
   pub passed-item : has Write (getD cells (me * 64 + i) 0) ≡ false → Sofar 0 (λ n. n % 64) (cellwise (certifiedCell old me)) (i + 1) old cells
   passed-item w = sofar-skip 0 (λ n. n % 64) (cellwise (certifiedCell old me)) i s (λ n h e. unwritten n _ w e)
+
+-- a transaction that has written nothing changes nothing
+pub none-written : (old : List ℕ) (me : ℕ) → any (holds old Write me) 0 64 ≡ false → old ≡ swept (certifiedCell old me) old
+unfolding swept mapCells certifiedCell
+none-written old me e = sym (mapFrom-kept 0 _ old (λ n x. kept (certifiedCell old me) n x (rw (any-none (holds old Write me) 0 64 e (n % 64) (omega arith) (omega arith)))))
 
 -- Ending: a row that was not written stays
 

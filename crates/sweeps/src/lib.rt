@@ -16,6 +16,7 @@ use house::Item;
 use house::Mark;
 use parts::grow;
 use parts::has_mark;
+use parts::holds_any;
 use parts::with_mark;
 use parts::without_mark;
 
@@ -66,10 +67,14 @@ fn is_written(cells: &[u8; 2048], n: usize) -> bool
     has_mark(Mark::Write, cells[n])
 }
 
+// Who has written nothing converts nothing.
 pub fn certify_cells(cells: &mut [u8; 2048], me: usize)
     ensures { λ r. ⌜ now (cells .exit) ≡ swept (certifiedCell (now (cells .entry)) (me % 32)) (now (cells .entry)) ⌝ }
 {
     let here = me % 32;
+    if !holds_any(cells, Mark::Write, me) {
+        return;
+    }
     for i in 0..64 {
         if is_written(cells, here * 64 + i) {
             certify_item(cells, here, i);

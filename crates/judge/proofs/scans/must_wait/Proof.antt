@@ -1,7 +1,10 @@
 use Prim.Native.Nat.{_-_}
+use native.Mathlib.Nat.{mod-eq-of-lt}
 use native.Mathlib.Omega.{arith}
 use mathlib.Core.Path.{_≡_, refl, sym, _∙_}
+use borrow.Author.Tests.{not-true}
 use borrow.Author.Needs.{needs}
+use Rattle.house.proofs.Checks.{nothing-written}
 use Rattle.house.proofs.Searches.{passed, met, ended}
 use Rattle.house.specs.Rules.{waitsAt}
 use Rattle.house.specs.Search.{any}
@@ -14,14 +17,20 @@ Inv-loop cells me i₀ i = any (waitsAt cells me) 0 64 ≡ any (waitsAt cells me
 abbrev μ-loop : tie.MeasureT-loop
 μ-loop cells me i₀ i = 64 - i
 
+holds-any-requires : tie.Need-holds-any-requires Inv-loop μ-loop
+holds-any-requires c κs = search needs
+
+returns : tie.Need-returns Inv-loop μ-loop
+returns c = sym (nothing-written _ _ (rw (mod-eq-of-lt (c .before .before .pre)) at (sym (c .before .holds-any .ensures) ∙ not-true _ (c .if1 .taken))))
+
 loop-holds : tie.Need-loop-holds Inv-loop μ-loop
 loop-holds c = refl
 
 waits-at-requires : tie.Need-waits-at-requires Inv-loop μ-loop
 waits-at-requires c κs = search needs
 
-returns : tie.Need-returns Inv-loop μ-loop
-returns c = sym (c .before .before .before .loop .inv ∙ met _ _ _ _ _ (omega arith) (sym (c .before .waits-at .ensures) ∙ c .if1 .taken))
+returns-2 : tie.Need-returns-2 Inv-loop μ-loop
+returns-2 c = sym (c .before .before .before .loop .inv ∙ met _ _ _ _ _ (omega arith) (sym (c .before .waits-at .ensures) ∙ c .if2 .taken))
 
 add-i : tie.Need-add-i Inv-loop μ-loop
 add-i c = search needs
@@ -30,10 +39,10 @@ loop-less : tie.Need-loop-less Inv-loop μ-loop
 loop-less c = search needs
 
 loop-again : tie.Need-loop-again Inv-loop μ-loop
-loop-again c = c .before .before .before .loop .inv ∙ passed _ _ _ _ _ (omega arith) (sym (c .before .waits-at .ensures) ∙ c .if1 .left)
+loop-again c = c .before .before .before .loop .inv ∙ passed _ _ _ _ _ (omega arith) (sym (c .before .waits-at .ensures) ∙ c .if2 .left)
 
-returns-2 : tie.Need-returns-2 Inv-loop μ-loop
-returns-2 c = sym (c .before .loop .inv ∙ ended _ _ _ _ _ (omega arith))
+returns-3 : tie.Need-returns-3 Inv-loop μ-loop
+returns-3 c = sym (c .before .loop .inv ∙ ended _ _ _ _ _ (omega arith))
 
 pub must-wait-spec : {M : Type 1} → statement M
 must-wait-spec =
@@ -41,10 +50,12 @@ must-wait-spec =
     (tie.spec
     Inv-loop
     μ-loop
+    holds-any-requires
+    returns
     loop-holds
     waits-at-requires
-    returns
+    returns-2
     add-i
     loop-less
     loop-again
-    returns-2)
+    returns-3)
