@@ -15,7 +15,6 @@ use Rattle.house.specs.declared.Request.{Request}
 use Rattle.house.specs.Rules.{stepped}
 use Rattle.house.specs.Run.{finally, replies}
 use Rattle.house.proofs.Runs.{finally-append, replies-append}
-use Rattle.ruling.proofs.Steps.{stepped-cells}
 use Rattle.wire.specs.Wire.{requestAt, replyBytes}
 use Rattle.desk.specs.Turn.{requests, wired, share, written, housed, answered}
 
@@ -102,8 +101,8 @@ length-answered h input room most =
     length-append (wired (replies h (requests n input))) (drop (n * 16) room)
     ∙ rw (length-wired h n input, length-drop (n * 16) room) (omega (arith, share-fits most input room))
 
--- the house of a turn keeps its cells as many as they were
-pub finally-cells : (h : House) → length (h .cells) ≡ 2048 → (qs : List Request) → length (finally h qs .cells) ≡ 2048
+-- the house of a turn keeps what each step keeps
+pub finally-keeps : (P : House → Type 0) → ((h : House) → P h → (q : Request) → P (stepped h q .house)) → (h : House) → P h → (qs : List Request) → P (finally h qs)
 unfolding finally
-finally-cells h z [] = z
-finally-cells h z (q ∷ qs) = finally-cells (stepped h q .house) (stepped-cells h z q) qs
+finally-keeps P k h z [] = z
+finally-keeps P k h z (q ∷ qs) = finally-keeps P k (stepped h q .house) (k h z q) qs

@@ -14,6 +14,7 @@ use ruling::Change;
 use sweeps::certify_cells;
 use sweeps::clear_cells;
 use sweeps::end_items;
+use sweeps::has_claimed;
 use sweeps::mark_cell;
 
 fn is_fit(change: Change) -> bool
@@ -55,9 +56,11 @@ pub fn perform(h: House, change: Change) -> House
             h.places[me] = certified(place);
         }
         Change::End(me, commits) => {
-            let items = h.items;
-            let ended = end_items(items, &h.cells, me, commits);
-            h.items = ended;
+            if has_claimed(&h.cells, me) {
+                let items = h.items;
+                let ended = end_items(items, &h.cells, me, commits);
+                h.items = ended;
+            }
             clear_cells(&mut h.cells, me);
             h.places[me] = left_free();
         }

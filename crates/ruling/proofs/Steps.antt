@@ -1,10 +1,10 @@
 -- The ruling of a request and the change made of it are the step of the rules.
 -- Assumes nothing.
 use Prim.Native.Nat.{_<_}
-use mathlib.Core.Path.{_≡_, refl}
+use mathlib.Core.Path.{_≡_, refl, _∙_}
 use mathlib.Core.Logic.{inl, inr}
 use mathlib.Core.Bool.{true, false}
-use lib.ListN.{length}
+use lib.ListN.{length, length-set}
 use lib.Dec.{eqb, ltb, leb}
 use borrow.Author.Tests.{eqb-true, eqb-false, lt-ltb, leb-false}
 use Rattle.house.specs.declared.House.{House}
@@ -14,11 +14,12 @@ use Rattle.house.specs.House.{vacancy}
 use Rattle.house.specs.Rules.{begin, read, write, certify, commit, abort, _does_, usesItem, noItem, crowded, verdict, begun, readBy, writtenBy, certifiedCell, certifiedBy, clearedCell, left, outcome, served, performed, stepped}
 use Rattle.house.proofs.Tests.{is, and-intro, and-right-false, or-false, or-left, or-right}
 use Rattle.house.proofs.Places.{seek-at, vacancy-at}
+use Rattle.house.proofs.Lists.{length-mapFrom}
 use Rattle.house.proofs.Cells.{length-withMark, length-mapCells}
 use Rattle.house.proofs.Checks.{Clear, clear, somebody, asker-known}
 use Rattle.ruling.specs.declared.Change.{Change}
 use Rattle.ruling.specs.declared.Change.the-variants.{Nothing, Begin, Read, Write, Certify, End}
-use Rattle.ruling.specs.Ruling.{effect, fits, granted, ruled}
+use Rattle.ruling.specs.Ruling.{effect, endedItem, fits, granted, ruled}
 
 module _ (h : House) (q : Request) (passed : verdict h q ≡ 0) where
   abbrev c : Clear h q
@@ -76,7 +77,7 @@ pub ruled-fits : (h : House) (q : Request) → fits (ruled h q .change) ≡ true
 unfolding ruled
 ruled-fits h q = elim (is (eqb (verdict h q) 0)) [ inl e ↦ rw e (done-made h q (eqb-true _ 0 e) .1) | inr e ↦ rw e ]
 
--- the cells stay as many as they were
+-- the cells and the items stay as many as they were
 effect-cells : (h : House) → length (h .cells) ≡ 2048 → (c : Change) → length (effect h c .cells) ≡ 2048
 unfolding begun readBy writtenBy certifiedBy left
 effect-cells h z Nothing = z
@@ -88,3 +89,15 @@ effect-cells h z (End me commits) = length-mapCells (h .cells) z (clearedCell me
 
 pub stepped-cells : (h : House) → length (h .cells) ≡ 2048 → (q : Request) → length (stepped h q .house .cells) ≡ 2048
 stepped-cells h z q = rw (ruled-steps h q) (effect-cells h z (ruled h q .change))
+
+effect-items : (h : House) → length (h .items) ≡ 64 → (c : Change) → length (effect h c .items) ≡ 64
+unfolding begun readBy writtenBy certifiedBy left
+effect-items h z Nothing = z
+effect-items h z (Begin l me) = z
+effect-items h z (Read me i) = z
+effect-items h z (Write me i v) = length-set (h .items) i _ ∙ z
+effect-items h z (Certify me) = z
+effect-items h z (End me commits) = length-mapFrom 0 (endedItem commits (h .cells) me) (h .items) ∙ z
+
+pub stepped-items : (h : House) → length (h .items) ≡ 64 → (q : Request) → length (stepped h q .house .items) ≡ 64
+stepped-items h z q = rw (ruled-steps h q) (effect-items h z (ruled h q .change))

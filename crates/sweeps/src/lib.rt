@@ -6,7 +6,7 @@ ghost use mathlib.Core.Bool.{cond, _||_};
 ghost use Prim.Native.Nat.{_<_, _%_};
 ghost use lib.ListN.{getD};
 ghost use Rattle.house.specs.declared.Mark.the-variants.{Write, Certify};
-ghost use Rattle.house.specs.Search.{mapFrom};
+ghost use Rattle.house.specs.Search.{any, mapFrom};
 ghost use Rattle.house.specs.Cell.{has, withMark, holds};
 ghost use Rattle.house.specs.House.{above, levelOf, withPending};
 ghost use Rattle.house.specs.Rules.{certifiedCell, clearedCell, grown};
@@ -137,6 +137,13 @@ fn has_written(cells: &[u8; 2048], me: usize, i: usize) -> bool
 {
     let c = cells[me * 64 + i];
     has_mark(Mark::Write, c) | has_mark(Mark::Certify, c)
+}
+
+// The transaction holds write or certify on some item.
+pub fn has_claimed(cells: &[u8; 2048], me: usize) -> bool
+    ensures { λ r. ⌜ r ≡ (any (holds (now (cells .entry)) Write (me % 32)) 0 64 || any (holds (now (cells .entry)) Certify (me % 32)) 0 64) ⌝ }
+{
+    holds_any(cells, Mark::Write, me) | holds_any(cells, Mark::Certify, me)
 }
 
 // Most rows stay: only a written one is stored.

@@ -2,20 +2,28 @@ use Prim.Native.Nat.{_<_}
 use native.Mathlib.Nat.{mod-eq-of-lt}
 use native.Mathlib.Omega.{arith}
 use mathlib.Core.Bool.{true, false}
+use mathlib.Core.Logic.{⊎-elim}
 use mathlib.Core.Path.{_≡_, sym, ap, _∙_}
 use lib.ListN.{length}
 use borrow.Author.Tests.{ltb-true, not-true, not-false}
 use borrow.Author.Needs.{needs}
 use Rattle.house.proofs.Tests.{both-below}
+use Rattle.house.proofs.Lists.{length-mapped}
 use Rattle.house.specs.Rules.{begun, readBy, writtenBy, certifiedBy, left}
-use Rattle.ruling.specs.Ruling.{fits, effect, effectIfFit}
+use Rattle.house.specs.House.{withItems}
+use Rattle.house.specs.Search.{mapFrom}
+use Rattle.ruling.specs.Ruling.{fits, effect, effectIfFit, endedItem}
+use Rattle.sweeps.proofs.Rounds.{none-claimed}
 use Rattle.sweeps.proofs.Whole.{swept-whole}
 use Rattle.perform.proofs.perform.Statement.{statement}
 use Rattle.perform.proofs.perform.Tie as tie
 
--- the cells are as many as their array has
+-- the cells and the items are as many as their arrays have
 long : (c : tie.Start) → length (c .args .h .cells) ≡ 2048
 long c = search needs
+
+rows : (c : tie.Start) → length (c .args .h .items) ≡ 64
+rows c = search (needs, length-mapped)
 
 unfit : (c : tie.Then1) → fits (c .before .before .args .change) ≡ false
 unfit c = sym (c .before .is-fit .ensures) ∙ not-true _ (c .if1 .taken)
@@ -43,6 +51,16 @@ certifies c = ltb-true _ _ (sym (ap fits (c .before .change4 .given .1)) ∙ fit
 
 ends : (c : tie.After-known-told5) → c .before .change5 .given .0 .0 < 32
 ends c = ltb-true _ _ (sym (ap fits (c .before .change5 .given .1)) ∙ fit (c .before .before .before))
+
+-- the items at the end, whether any was claimed or none
+ended : (c : tie.Joined2) → c .if2 .h ≡ withItems (c .before .before .before .before .before .before .before .before .before .args .h) (mapFrom 0 (endedItem (c .before .before .before .before .before .change5 .given .0 .1 .0) (c .before .before .before .before .before .before .before .before .before .args .h .cells) (c .before .before .before .before .before .change5 .given .0 .0)) (c .before .before .before .before .before .before .before .before .before .args .h .items))
+ended c =
+    let h = c .before .before .before .before .before .before .before .before .before .args .h in
+    let me = mod-eq-of-lt (ends (c .before .before .before .before)) in
+    ⊎-elim
+    (λ w. w .5 ∙ ap (withItems h) (rw me at (w .4 .ensures)))
+    (λ w. w .1 ∙ ap (withItems h) (none-claimed (c .before .before .before .before .before .change5 .given .0 .1 .0) _ _ _ (rw me at (sym (c .before .has-claimed .ensures) ∙ w .0 .left)) (rows (c .before .before .before .before .before .before .before .before .before))))
+    (c .if2 .came)
 
 is-fit-requires : tie.Need-is-fit-requires
 is-fit-requires c κs = search needs
@@ -132,6 +150,9 @@ element-set-from-h-3 c = let k = certifies (c .before .before .before .before) i
 enum-known-change-5 : tie.Need-enum-known-change-5
 enum-known-change-5 c = search needs
 
+has-claimed-requires : tie.Need-has-claimed-requires
+has-claimed-requires c κs = search needs
+
 end-items-requires : tie.Need-end-items-requires
 end-items-requires c κs = search needs
 
@@ -141,8 +162,8 @@ clear-cells-requires c κs = search needs
 left-free-requires : tie.Need-left-free-requires
 left-free-requires c κs = search needs
 
-mul-t54 : tie.Need-mul-t54
-mul-t54 c = let k = ends (c .before .before .before .before .before .before .before) in omega arith
+mul-t56 : tie.Need-mul-t56
+mul-t56 c = let k = ends (c .before .before .before .before .before .before .before) in omega arith
 
 element-set-from-h-4 : tie.Need-element-set-from-h-4
 element-set-from-h-4 c = let k = ends (c .before .before .before .before .before .before .before) in omega arith
@@ -168,7 +189,7 @@ returns-6 c = rw (fitting (c .before .before .before .before .before .before .be
 
 returns-7 : tie.Need-returns-7
 unfolding left
-returns-7 c = rw (fitting (c .before .before .before .before .before .before .before .before .before .before), c .before .before .before .before .before .before .before .before .change5 .given .1, c .before .before .before .end-items .ensures, c .before .clear-cells .ensures, mod-eq-of-lt (ends (c .before .before .before .before .before .before .before)), swept-whole _ _ (long (c .before .before .before .before .before .before .before .before .before .before .before .before)), c .left-free .ensures)
+returns-7 c = rw (fitting (c .before .before .before .before .before .before .before .before .before .before), c .before .before .before .before .before .before .before .before .change5 .given .1, c .before .clear-cells .ensures, c .left-free .ensures, ended (c .before .before .before), mod-eq-of-lt (ends (c .before .before .before .before .before .before .before)), swept-whole _ _ (long (c .before .before .before .before .before .before .before .before .before .before .before .before)))
 
 pub perform-spec : {M : Type 1} → statement M
 perform-spec =
@@ -203,10 +224,11 @@ perform-spec =
     mul-t44
     element-set-from-h-3
     enum-known-change-5
+    has-claimed-requires
     end-items-requires
     clear-cells-requires
     left-free-requires
-    mul-t54
+    mul-t56
     element-set-from-h-4
     returns-2
     returns-3

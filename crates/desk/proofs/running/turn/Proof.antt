@@ -3,21 +3,26 @@ use native.Mathlib.Nat.{mod-eq-of-lt}
 use native.Mathlib.Omega.{arith}
 use mathlib.Core.Bool.{true}
 use mathlib.Core.List.{List}
+use mathlib.Core.Logic.{⊎-elim}
 use mathlib.Core.Path.{_≡_, refl, sym, ap, _∙_}
 use lib.ListN.{length}
 use borrow.Author.Needs.{needs}
 use borrow.Author.Tests.{ltb-true}
 use Rattle.house.proofs.Tests.{both-below}
+use Rattle.house.proofs.Lists.{length-mapped}
+use Rattle.house.specs.House.{withItems}
+use Rattle.house.specs.Search.{mapFrom}
 use Rattle.house.specs.Rules.{outcome, begun, readBy, writtenBy, certifiedBy, left}
 use Rattle.house.specs.Run.{finally, replies}
 use Rattle.house.specs.declared.House.{House}
 use Rattle.ruling.proofs.Judged.{shows}
-use Rattle.ruling.proofs.Steps.{ruled-steps, ruled-fits}
+use Rattle.ruling.proofs.Steps.{ruled-steps, ruled-fits, stepped-cells, stepped-items}
 use Rattle.ruling.specs.Judged.{Judged}
-use Rattle.ruling.specs.Ruling.{fits, effect, ruled}
+use Rattle.ruling.specs.Ruling.{fits, effect, ruled, endedItem}
 use Rattle.ruling.specs.declared.Change.{Change}
+use Rattle.sweeps.proofs.Rounds.{none-claimed}
 use Rattle.sweeps.proofs.Whole.{swept-whole}
-use Rattle.desk.proofs.Laws.{next, housed-next, written-next, finally-cells}
+use Rattle.desk.proofs.Laws.{next, housed-next, written-next, finally-keeps}
 use Rattle.desk.proofs.running.turn.Statement.{statement}
 use Rattle.desk.proofs.running.turn.Tie as tie
 use Rattle.desk.specs.Turn.{requests, wired, share, housed, written, turned, answered}
@@ -97,12 +102,28 @@ certifies c = ltb-true _ _ (sym (ap fits (c .change4 .given .1)) ∙ fit (judged
 ends : (c : tie.After-change5 Inv-loop μ-loop) → c .change5 .given .0 .0 < 32
 ends c = ltb-true _ _ (sym (ap fits (c .change5 .given .1)) ∙ fit (judged (c .before .before)))
 
--- the cells are as many as their array has
-lent : (c : tie.Start Inv-loop μ-loop) → length (c .args .h .cells) ≡ 2048
-lent c = search needs
+-- the cells and the items are as many as their arrays have, from round to round
+lent-cells : (c : tie.Start Inv-loop μ-loop) → length (c .args .h .cells) ≡ 2048
+lent-cells c = search needs
+
+lent-items : (c : tie.Start Inv-loop μ-loop) → length (c .args .h .items) ≡ 64
+lent-items c = search (needs, length-mapped)
 
 long : (c : tie.After-slice-known2 Inv-loop μ-loop) → length (entered (judged c) .before .loop .h .cells) ≡ 2048
-long c = ap (λ h. length (h .cells)) (entered (judged c) .before .loop .inv .2) ∙ finally-cells _ (lent (entered (judged c) .before .before .before .before .before .before)) _
+long c = ap (λ h. length (h .cells)) (entered (judged c) .before .loop .inv .2) ∙ finally-keeps (λ h. length (h .cells) ≡ 2048) stepped-cells _ (lent-cells (entered (judged c) .before .before .before .before .before .before)) _
+
+rows : (c : tie.After-slice-known2 Inv-loop μ-loop) → length (entered (judged c) .before .loop .h .items) ≡ 64
+rows c = ap (λ h. length (h .items)) (entered (judged c) .before .loop .inv .2) ∙ finally-keeps (λ h. length (h .items) ≡ 64) stepped-items _ (lent-items (entered (judged c) .before .before .before .before .before .before)) _
+
+-- the items at an end, whether any was claimed or none
+ended : (c : tie.Joined1 Inv-loop μ-loop) → let h = entered (judged (c .before .before .before .before .before .before .before)) .before .loop .h in c .if1 .h ≡ withItems h (mapFrom 0 (endedItem (c .before .before .before .before .before .change5 .given .0 .1 .0) (h .cells) (c .before .before .before .before .before .change5 .given .0 .0)) (h .items))
+ended c =
+    let h = entered (judged (c .before .before .before .before .before .before .before)) .before .loop .h in
+    let me = mod-eq-of-lt (ends (c .before .before .before .before .before)) in
+    ⊎-elim
+    (λ w. w .5 ∙ ap (withItems h) (rw me at (w .4 .ensures)))
+    (λ w. w .1 ∙ ap (withItems h) (none-claimed (c .before .before .before .before .before .change5 .given .0 .1 .0) _ _ _ (rw me at (sym (c .before .has-claimed .ensures) ∙ w .0 .left)) (rows (c .before .before .before .before .before .before .before))))
+    (c .if1 .came)
 
 least-requires : tie.Need-least-requires Inv-loop μ-loop
 least-requires c κs = search needs
@@ -340,6 +361,9 @@ loop-again-5 c = let s = c .before .before .before .before .before .before .befo
 enum-known-change-5 : tie.Need-enum-known-change-5 Inv-loop μ-loop
 enum-known-change-5 c = search needs
 
+has-claimed-requires : tie.Need-has-claimed-requires Inv-loop μ-loop
+has-claimed-requires c κs = search needs
+
 end-items-requires : tie.Need-end-items-requires Inv-loop μ-loop
 end-items-requires c κs = search needs
 
@@ -349,8 +373,8 @@ clear-cells-requires c κs = search needs
 left-free-requires : tie.Need-left-free-requires Inv-loop μ-loop
 left-free-requires c κs = search needs
 
-mul-t112 : tie.Need-mul-t112 Inv-loop μ-loop
-mul-t112 c = omega (arith, ends (c .before .before .before .before .before .before .before .before))
+mul-t114 : tie.Need-mul-t114 Inv-loop μ-loop
+mul-t114 c = omega (arith, ends (c .before .before .before .before .before .before .before .before))
 
 element-set-from-h-4 : tie.Need-element-set-from-h-4 Inv-loop μ-loop
 element-set-from-h-4 c = omega (arith, ends (c .before .before .before .before .before .before .before .before))
@@ -360,7 +384,7 @@ loop-less-6 c = less (c .before .before .before .before .before .before .before 
 
 loop-again-6 : tie.Need-loop-again-6 Inv-loop μ-loop
 unfolding left
-loop-again-6 c = let s = c .before .before .before .before .before .before .before .before .before .before in (more s, long-as-lent s, rw (← made s _ (c .before .before .before .before .before .before .before .before .change5 .given .1), c .before .before .before .end-items .ensures, c .before .clear-cells .ensures, mod-eq-of-lt (ends (c .before .before .before .before .before .before .before .before)), swept-whole _ _ (long s), c .left-free .ensures), wrote s)
+loop-again-6 c = let s = c .before .before .before .before .before .before .before .before .before .before in (more s, long-as-lent s, rw (← made s _ (c .before .before .before .before .before .before .before .before .change5 .given .1), c .before .clear-cells .ensures, c .left-free .ensures, ended (c .before .before .before), mod-eq-of-lt (ends (c .before .before .before .before .before .before .before .before)), swept-whole _ _ (long s)), wrote s)
 
 same-length : tie.Need-same-length Inv-loop μ-loop
 same-length c = search needs
@@ -454,10 +478,11 @@ turn-spec =
     loop-less-5
     loop-again-5
     enum-known-change-5
+    has-claimed-requires
     end-items-requires
     clear-cells-requires
     left-free-requires
-    mul-t112
+    mul-t114
     element-set-from-h-4
     loop-less-6
     loop-again-6
