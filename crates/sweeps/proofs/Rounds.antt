@@ -6,12 +6,12 @@ use mathlib.Core.Path.{_≡_, refl, sym}
 use mathlib.Core.Logic.{_≢_, inl, inr}
 use mathlib.Core.Bool.{Bool, true, false, _||_}
 use mathlib.Core.List.{List}
-use lib.ListN.{length, getD}
+use lib.ListN.{getD}
 use lib.Dec.{ltb}
 use borrow.Author.Tests.{eq-eqb, ne-eqb, lt-ltb, le-ltb}
 use Rattle.house.specs.declared.Item.{Item}
 use Rattle.house.specs.declared.Mark.the-variants.{Write, Certify}
-use Rattle.house.specs.Search.{any, mapFrom}
+use Rattle.house.specs.Search.{any}
 use Rattle.house.specs.Cell.{has, cellAt, holds, mapCells}
 use Rattle.house.specs.Rules.{certifiedCell, clearedCell, committedItem, abortedItem}
 use Rattle.house.proofs.Tests.{is, or-false}
@@ -95,15 +95,3 @@ pub ended-unwritten : (commits : Bool) (cells : List ℕ) (me i : ℕ) (x : Item
 unfolding committedItem abortedItem
 ended-unwritten true cells me i x e = rw (or-false (holds cells Write me i) (holds cells Certify me i) e .1)
 ended-unwritten false cells me i x e = rw e
-
--- and so do all, where none was
-pub none-claimed : (commits : Bool) (cells : List ℕ) (me : ℕ) (items : List Item) → (any (holds cells Write me) 0 64 || any (holds cells Certify me) 0 64) ≡ false → length items ≡ 64 → items ≡ mapFrom 0 (endedItem commits cells me) items
-none-claimed commits cells me items e long = sym (mapFrom-kept 0 _ items (λ i x h. ended-unwritten commits cells me i x (unclaimed i h)))
-  where
-    none : (any (holds cells Write me) 0 64 ≡ false) × (any (holds cells Certify me) 0 64 ≡ false)
-    none = or-false _ _ e
-
-    unclaimed : (i : ℕ) → i < 0 + length items → (holds cells Write me i || holds cells Certify me i) ≡ false
-    unclaimed i h =
-        let b : i < 64 = omega (arith, long) in
-        rw (any-none (holds cells Write me) 0 64 (none .0) i (omega arith) (omega arith), any-none (holds cells Certify me) 0 64 (none .1) i (omega arith) (omega arith))

@@ -13,8 +13,7 @@ use Rattle.house.specs.Rules.{begun, readBy, writtenBy, certifiedBy, left}
 use Rattle.house.specs.House.{withItems}
 use Rattle.house.specs.Search.{mapFrom}
 use Rattle.ruling.specs.Ruling.{fits, effect, effectIfFit, endedItem}
-use Rattle.sweeps.proofs.Rounds.{none-claimed}
-use Rattle.sweeps.proofs.Whole.{swept-whole}
+use Rattle.sweeps.proofs.Whole.{swept-whole, none-claimed}
 use Rattle.perform.proofs.perform.Statement.{statement}
 use Rattle.perform.proofs.perform.Tie as tie
 

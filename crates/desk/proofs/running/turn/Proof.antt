@@ -20,8 +20,7 @@ use Rattle.ruling.proofs.Steps.{ruled-steps, ruled-fits, stepped-cells, stepped
 use Rattle.ruling.specs.Judged.{Judged}
 use Rattle.ruling.specs.Ruling.{fits, effect, ruled, endedItem}
 use Rattle.ruling.specs.declared.Change.{Change}
-use Rattle.sweeps.proofs.Rounds.{none-claimed}
-use Rattle.sweeps.proofs.Whole.{swept-whole}
+use Rattle.sweeps.proofs.Whole.{swept-whole, none-claimed}
 use Rattle.desk.proofs.Laws.{next, housed-next, written-next, finally-keeps}
 use Rattle.desk.proofs.running.turn.Statement.{statement}
 use Rattle.desk.proofs.running.turn.Tie as tie
