@@ -1,25 +1,22 @@
 -- The ruling of a request and the change made of it are the step of the rules.
 -- Assumes nothing.
 use Prim.Native.Nat.{_<_}
-use mathlib.Core.Path.{_≡_, refl, _∙_}
+use mathlib.Core.Path.{_≡_, refl}
 use mathlib.Core.Logic.{inl, inr}
 use mathlib.Core.Bool.{true, false}
-use lib.ListN.{length, length-set}
 use lib.Dec.{eqb, ltb, leb}
 use borrow.Author.Tests.{eqb-true, eqb-false, lt-ltb, leb-false}
 use Rattle.house.specs.declared.House.{House}
-use Rattle.house.specs.declared.Mark.the-variants as Mark
 use Rattle.house.specs.declared.Request.{Request}
-use Rattle.house.specs.House.{vacancy}
-use Rattle.house.specs.Rules.{begin, read, write, certify, commit, abort, _does_, usesItem, noItem, crowded, verdict, begun, readBy, writtenBy, certifiedCell, certifiedBy, clearedCell, left, outcome, served, performed, stepped}
+use Rattle.house.specs.House.{Sizes, vacancy}
+use Rattle.house.specs.Rules.{begin, read, write, certify, commit, abort, _does_, usesItem, noItem, crowded, verdict, outcome, served, performed, stepped}
 use Rattle.house.proofs.Tests.{is, and-intro, and-right-false, or-false, or-left, or-right}
 use Rattle.house.proofs.Places.{seek-at, vacancy-at}
-use Rattle.house.proofs.Lists.{length-mapFrom}
-use Rattle.house.proofs.Cells.{length-withMark, length-mapCells}
+use Rattle.house.proofs.Effects.{begun-sizes, read-sizes, written-sizes, certified-sizes, left-sizes}
 use Rattle.house.proofs.Checks.{Clear, clear, somebody, asker-known}
 use Rattle.ruling.specs.declared.Change.{Change}
 use Rattle.ruling.specs.declared.Change.the-variants.{Nothing, Begin, Read, Write, Certify, End}
-use Rattle.ruling.specs.Ruling.{effect, endedItem, fits, granted, ruled}
+use Rattle.ruling.specs.Ruling.{effect, fits, granted, ruled}
 
 module _ (h : House) (q : Request) (passed : verdict h q ≡ 0) where
   abbrev c : Clear h q
@@ -77,27 +74,14 @@ pub ruled-fits : (h : House) (q : Request) → fits (ruled h q .change) ≡ true
 unfolding ruled
 ruled-fits h q = elim (is (eqb (verdict h q) 0)) [ inl e ↦ rw e (done-made h q (eqb-true _ 0 e) .1) | inr e ↦ rw e ]
 
--- the cells and the items stay as many as they were
-effect-cells : (h : House) → length (h .cells) ≡ 2048 → (c : Change) → length (effect h c .cells) ≡ 2048
-unfolding begun readBy writtenBy certifiedBy left
-effect-cells h z Nothing = z
-effect-cells h z (Begin l me) = z
-effect-cells h z (Read me i) = length-withMark (h .cells) z Mark.Read me i
-effect-cells h z (Write me i v) = length-withMark (h .cells) z Mark.Write me i
-effect-cells h z (Certify me) = length-mapCells (h .cells) z (certifiedCell (h .cells) me)
-effect-cells h z (End me commits) = length-mapCells (h .cells) z (clearedCell me)
+-- the house stays as large as it was
+effect-sizes : {h : House} → Sizes h → (c : Change) → Sizes (effect h c)
+effect-sizes z Nothing = z
+effect-sizes z (Begin l me) = begun-sizes z l me
+effect-sizes z (Read me i) = read-sizes z me i
+effect-sizes z (Write me i v) = written-sizes z me i v
+effect-sizes z (Certify me) = certified-sizes z me
+effect-sizes z (End me commits) = left-sizes z _ me
 
-pub stepped-cells : (h : House) → length (h .cells) ≡ 2048 → (q : Request) → length (stepped h q .house .cells) ≡ 2048
-stepped-cells h z q = rw (ruled-steps h q) (effect-cells h z (ruled h q .change))
-
-effect-items : (h : House) → length (h .items) ≡ 64 → (c : Change) → length (effect h c .items) ≡ 64
-unfolding begun readBy writtenBy certifiedBy left
-effect-items h z Nothing = z
-effect-items h z (Begin l me) = z
-effect-items h z (Read me i) = z
-effect-items h z (Write me i v) = length-set (h .items) i _ ∙ z
-effect-items h z (Certify me) = z
-effect-items h z (End me commits) = length-mapFrom 0 (endedItem commits (h .cells) me) (h .items) ∙ z
-
-pub stepped-items : (h : House) → length (h .items) ≡ 64 → (q : Request) → length (stepped h q .house .items) ≡ 64
-stepped-items h z q = rw (ruled-steps h q) (effect-items h z (ruled h q .change))
+pub stepped-sizes : (h : House) → Sizes h → (q : Request) → Sizes (stepped h q .house)
+stepped-sizes h z q = rw (ruled-steps h q) (effect-sizes z (ruled h q .change))

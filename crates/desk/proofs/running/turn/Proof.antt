@@ -10,13 +10,13 @@ use borrow.Author.Needs.{needs}
 use borrow.Author.Tests.{ltb-true}
 use Rattle.house.proofs.Tests.{both-below}
 use Rattle.house.proofs.Lists.{length-mapped}
-use Rattle.house.specs.House.{withItems}
+use Rattle.house.specs.House.{Sizes, withItems}
 use Rattle.house.specs.Search.{mapFrom}
 use Rattle.house.specs.Rules.{outcome, begun, readBy, writtenBy, certifiedBy, left}
 use Rattle.house.specs.Run.{finally, replies}
 use Rattle.house.specs.declared.House.{House}
 use Rattle.ruling.proofs.Judged.{shows}
-use Rattle.ruling.proofs.Steps.{ruled-steps, ruled-fits, stepped-cells, stepped-items}
+use Rattle.ruling.proofs.Steps.{ruled-steps, ruled-fits, stepped-sizes}
 use Rattle.ruling.specs.Judged.{Judged}
 use Rattle.ruling.specs.Ruling.{fits, effect, ruled, endedItem}
 use Rattle.ruling.specs.declared.Change.{Change}
@@ -101,18 +101,12 @@ certifies c = ltb-true _ _ (sym (ap fits (c .change4 .given .1)) ∙ fit (judged
 ends : (c : tie.After-change5 Inv-loop μ-loop) → c .change5 .given .0 .0 < 32
 ends c = ltb-true _ _ (sym (ap fits (c .change5 .given .1)) ∙ fit (judged (c .before .before)))
 
--- the cells and the items are as many as their arrays have, from round to round
-lent-cells : (c : tie.Start Inv-loop μ-loop) → length (c .args .h .cells) ≡ 2048
-lent-cells c = search needs
+-- the lists are as long as the arrays, from round to round
+lent : (c : tie.Start Inv-loop μ-loop) → Sizes (c .args .h)
+lent c = record { items = search (needs, length-mapped); places = search (needs, length-mapped); next = search needs; cells = search needs }
 
-lent-items : (c : tie.Start Inv-loop μ-loop) → length (c .args .h .items) ≡ 64
-lent-items c = search (needs, length-mapped)
-
-long : (c : tie.After-slice-known2 Inv-loop μ-loop) → length (entered (judged c) .before .loop .h .cells) ≡ 2048
-long c = ap (λ h. length (h .cells)) (entered (judged c) .before .loop .inv .2) ∙ finally-keeps (λ h. length (h .cells) ≡ 2048) stepped-cells _ (lent-cells (entered (judged c) .before .before .before .before .before .before)) _
-
-rows : (c : tie.After-slice-known2 Inv-loop μ-loop) → length (entered (judged c) .before .loop .h .items) ≡ 64
-rows c = ap (λ h. length (h .items)) (entered (judged c) .before .loop .inv .2) ∙ finally-keeps (λ h. length (h .items) ≡ 64) stepped-items _ (lent-items (entered (judged c) .before .before .before .before .before .before)) _
+sizes : (c : tie.After-slice-known2 Inv-loop μ-loop) → Sizes (entered (judged c) .before .loop .h)
+sizes c = rw (entered (judged c) .before .loop .inv .2) (finally-keeps Sizes stepped-sizes _ (lent (entered (judged c) .before .before .before .before .before .before)) _)
 
 -- the items at an end, whether any was claimed or none
 ended : (c : tie.Joined1 Inv-loop μ-loop) → let h = entered (judged (c .before .before .before .before .before .before .before)) .before .loop .h in c .if1 .h ≡ withItems h (mapFrom 0 (endedItem (c .before .before .before .before .before .change5 .given .0 .1 .0) (h .cells) (c .before .before .before .before .before .change5 .given .0 .0)) (h .items))
@@ -121,7 +115,7 @@ ended c =
     let me = mod-eq-of-lt (ends (c .before .before .before .before .before)) in
     ⊎-elim
     (λ w. w .5 ∙ ap (withItems h) (rw me at (w .4 .ensures)))
-    (λ w. w .1 ∙ ap (withItems h) (none-claimed (c .before .before .before .before .before .change5 .given .0 .1 .0) _ _ _ (rw me at (sym (c .before .has-claimed .ensures) ∙ w .0 .left)) (rows (c .before .before .before .before .before .before .before))))
+    (λ w. w .1 ∙ ap (withItems h) (none-claimed (c .before .before .before .before .before .change5 .given .0 .1 .0) _ _ _ (rw me at (sym (c .before .has-claimed .ensures) ∙ w .0 .left)) (sizes (c .before .before .before .before .before .before .before) .items)))
     (c .if1 .came)
 
 least-requires : tie.Need-least-requires Inv-loop μ-loop
@@ -355,7 +349,7 @@ loop-less-5 c = less (c .before .before .before .before .before .before .before)
 
 loop-again-5 : tie.Need-loop-again-5 Inv-loop μ-loop
 unfolding certifiedBy
-loop-again-5 c = let s = c .before .before .before .before .before .before .before in (more s, long-as-lent s, rw (← made s _ (c .before .before .before .before .before .change4 .given .1), c .before .before .certify-cells .ensures, mod-eq-of-lt (certifies (c .before .before .before .before .before)), swept-whole _ _ (long s), c .certified .ensures), wrote s)
+loop-again-5 c = let s = c .before .before .before .before .before .before .before in (more s, long-as-lent s, rw (← made s _ (c .before .before .before .before .before .change4 .given .1), c .before .before .certify-cells .ensures, mod-eq-of-lt (certifies (c .before .before .before .before .before)), swept-whole _ _ (sizes s .cells), c .certified .ensures), wrote s)
 
 enum-known-change-5 : tie.Need-enum-known-change-5 Inv-loop μ-loop
 enum-known-change-5 c = search needs
@@ -383,7 +377,7 @@ loop-less-6 c = less (c .before .before .before .before .before .before .before 
 
 loop-again-6 : tie.Need-loop-again-6 Inv-loop μ-loop
 unfolding left
-loop-again-6 c = let s = c .before .before .before .before .before .before .before .before .before .before in (more s, long-as-lent s, rw (← made s _ (c .before .before .before .before .before .before .before .before .change5 .given .1), c .before .clear-cells .ensures, c .left-free .ensures, ended (c .before .before .before), mod-eq-of-lt (ends (c .before .before .before .before .before .before .before .before)), swept-whole _ _ (long s)), wrote s)
+loop-again-6 c = let s = c .before .before .before .before .before .before .before .before .before .before in (more s, long-as-lent s, rw (← made s _ (c .before .before .before .before .before .before .before .before .change5 .given .1), c .before .clear-cells .ensures, c .left-free .ensures, ended (c .before .before .before), mod-eq-of-lt (ends (c .before .before .before .before .before .before .before .before)), swept-whole _ _ (sizes s .cells)), wrote s)
 
 same-length : tie.Need-same-length Inv-loop μ-loop
 same-length c = search needs
