@@ -11,7 +11,7 @@ use borrow.Author.Tests.{eqb-false, ne-eqb}
 use Rattle.house.specs.declared.House.{House}
 use Rattle.house.specs.declared.Item.{Item}
 use Rattle.house.specs.Search.{mapFrom}
-use Rattle.house.specs.House.{blank as blankItem}
+use Rattle.house.specs.House.{blank}
 use Rattle.house.specs.Opening.{rowAt, rows, opened, opening}
 use Rattle.house.specs.Run.{replies}
 use Rattle.house.proofs.Tests.{is}
@@ -24,13 +24,13 @@ use Rattle.dialogue.proofs.Pieces.{in-pieces}
 use Rattle.serial.specs.Demand.{Event, trace, row, work, commits, answers, serially, table, Demand3}
 use Rattle.serial.proofs.Demand.{demand}
 use Rattle.serial_bytes.specs.Bytes.{exchanged}
-use Rattle.serial_bytes.specs.Pieces.{seen, blank, Demand3OverPieces, OverPieces}
+use Rattle.serial_bytes.specs.Pieces.{seen, blankTable, Demand3OverPieces, OverPieces}
 use Rattle.serial_bytes.proofs.Range.{opening-fits}
 use Rattle.serial_bytes.proofs.Bytes.{Small, small-drop, turn-trace}
 
 -- the demand, of these events
 abbrev Equal : List Event → House → Type 0
-Equal es h = serially blank (map (λ n. work n es) (commits es)) ≡ (map (λ n. answers (work n es)) (commits es), table h)
+Equal es h = serially blankTable (map (λ n. work n es) (commits es)) ≡ (map (λ n. answers (work n es)) (commits es), table h)
 
 -- THE TABLE AT AN OPENING
 
@@ -39,13 +39,13 @@ unfolding mapFrom rowAt
 rows-blank levels k [] = refl
 rows-blank levels k (x ∷ xs) = ap (λ t. (0, 0) ∷ t) (rows-blank levels (suc k) xs)
 
-opening-blank : (levels : List ℕ) → table (opening levels .house) ≡ blank
+opening-blank : (levels : List ℕ) → table (opening levels .house) ≡ blankTable
 unfolding opening opened rows
-opening-blank levels = rows-blank _ 0 (replicate 64 blankItem)
+opening-blank levels = rows-blank _ 0 (replicate 64 blank)
 
 -- NOBODY COMMITTED
 
-idle : (es : List Event) (h : House) → commits es ≡ [] → table h ≡ blank → Equal es h
+idle : (es : List Event) (h : House) → commits es ≡ [] → table h ≡ blankTable → Equal es h
 unfolding serially
 idle es h c t = rw (c, t)
 

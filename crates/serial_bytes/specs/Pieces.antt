@@ -17,15 +17,15 @@ seen input output =
     exchanged (min (length asked / 12) (length output / 16)) asked output
 
 -- the plain table at an opening, done or refused: "both 0 at opening"
-abbrev pub blank : Table
-blank = replicate 64 (0, 0)
+abbrev pub blankTable : Table
+blankTable = replicate 64 (0, 0)
 
 -- what was written for these pieces, and the house at the end, stand in `conversed`
 unfoldable pub Demand3OverPieces : List Piece → Type 0
 Demand3OverPieces ps =
     let end = conversed started [] ps in
     let es = seen (joined ps) (end .0) in
-    serially blank (map (λ n. work n es) (commits es)) ≡ (map (λ n. answers (work n es)) (commits es), table (end .1))
+    serially blankTable (map (λ n. work n es) (commits es)) ≡ (map (λ n. answers (work n es)) (commits es), table (end .1))
 
 -- THE STATEMENT: of every input, refused openings included, in any pieces, with room for the replies to each
 abbrev pub OverPieces : Type 0
