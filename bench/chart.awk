@@ -1,8 +1,8 @@
 # The bar chart as SVG, from the raw figures: ns per request, one group for each traffic.
 BEGIN {
     FS = ","
-    words["plain"] = "plain C"; words["steps"] = "plain C, by value"; words["tuned"] = "tuned C"; words["turn"] = "proved turn"
-    words["step"] = "proved step, by value"; words["bdb"] = "Berkeley DB's lock table"
+    words["plain"] = "plain C"; words["steps"] = "plain C, by value"; words["tuned"] = "tuned C"
+    words["in_place"] = "proved turn_in_place"; words["turn"] = "proved turn, by value"; words["bdb"] = "Berkeley DB's lock table"
     split("refused done pressed", mixes, " ")
     heads["refused"] = "Refused-heavy traffic"; heads["done"] = "Done-heavy traffic"; heads["pressed"] = "Pressed traffic (places nearly full)"
 }
@@ -22,8 +22,8 @@ END {
     printf "<svg xmlns=\"http://www.w3.org/2000/svg\" viewBox=\"0 0 %d %d\" width=\"%d\" height=\"%d\" role=\"img\" aria-label=\"Nanoseconds per request of each desk, less is better\">\n", width, height, width, height
     print "<style>"
     print "text { font: 13px sans-serif; fill: #1f2328 } .title { font-size: 16px; font-weight: bold } .head { font-weight: bold } .note { font-size: 11px; fill: #59636e }"
-    print ".ground { fill: #ffffff } .plain { fill: #8c959f } .steps { fill: #afb8c1 } .tuned { fill: #57606a } .turn { fill: #1a7f37 } .step { fill: #4ac26b } .bdb { fill: #bf8700 } .axis { stroke: #8c959f }"
-    print "@media (prefers-color-scheme: dark) { text { fill: #e6edf3 } .note { fill: #9198a1 } .ground { fill: #0d1117 } .plain { fill: #8b949e } .steps { fill: #6e7681 } .tuned { fill: #b1bac4 } .turn { fill: #3fb950 } .step { fill: #238636 } .bdb { fill: #d29922 } }"
+    print ".ground { fill: #ffffff } .plain { fill: #8c959f } .steps { fill: #afb8c1 } .tuned { fill: #57606a } .in_place { fill: #1a7f37 } .turn { fill: #4ac26b } .bdb { fill: #bf8700 } .axis { stroke: #8c959f }"
+    print "@media (prefers-color-scheme: dark) { text { fill: #e6edf3 } .note { fill: #9198a1 } .ground { fill: #0d1117 } .plain { fill: #8b949e } .steps { fill: #6e7681 } .tuned { fill: #b1bac4 } .in_place { fill: #3fb950 } .turn { fill: #238636 } .bdb { fill: #d29922 } }"
     print "</style>"
     printf "<rect class=\"ground\" width=\"%d\" height=\"%d\"/>\n", width, height
     text("title", 16, 28, "start", "Nanoseconds per request (less is better)")

@@ -133,6 +133,14 @@ static void try_openings(void) {
     }
 }
 
+typedef size_t turn(const uint8_t *levels, size_t levels_len, const uint8_t *requests, size_t requests_len,
+                    uint8_t *replies, size_t replies_len, size_t most);
+
+static const struct {
+    const char *name;
+    turn *call;
+} turns[] = {{"desk_turn", desk_turn}, {"desk_turn_in_place", desk_turn_in_place}};
+
 static void try(const struct example *e) {
     uint8_t requests[(MOST_STEPS + 1) * REQUEST_BYTES], expected[MOST_STEPS * REPLY_BYTES];
     uint8_t replies[(MOST_STEPS + 1) * REPLY_BYTES];
@@ -150,30 +158,22 @@ static void try(const struct example *e) {
     // A turn of one request, of a few, and of all; with an unfinished request at the end and more
     // places than replies; with one place too few.
     static const size_t mosts[] = {1, 3, 1000000};
-    for (size_t m = 0; m < 3; m++) {
-        char call[32];
-        snprintf(call, sizeof call, "desk_run of at most %zu", mosts[m]);
+    for (size_t k = 0; k < 6; k++) {
+        size_t most = mosts[k % 3];
+        turn *serve = turns[k / 3].call;
+        char call[48];
+        snprintf(call, sizeof call, "%s of at most %zu", turns[k / 3].name, most);
         memset(replies, GUARD, sizeof replies);
-        size_t answered = desk_run(e->levels, e->items, requests, whole + REQUEST_BYTES - 1,
-                                   replies, sizeof replies, mosts[m]);
+        size_t answered =
+            serve(e->levels, e->items, requests, whole + REQUEST_BYTES - 1, replies, sizeof replies, most);
         differing += !same(e->name, call, requests, expected, replies, sizeof replies,
-                           least(mosts[m], e->steps), answered);
+                           least(most, e->steps), answered);
         memset(replies, GUARD, sizeof replies);
-        answered = desk_run(e->levels, e->items, requests, whole, replies, place - 1, mosts[m]);
+        answered = serve(e->levels, e->items, requests, whole, replies, place - 1, most);
         differing += !same(e->name, call, requests, expected, replies, sizeof replies,
-                           least(mosts[m], e->steps - 1), answered);
+                           least(most, e->steps - 1), answered);
         calls += 2;
     }
-    memset(replies, GUARD, sizeof replies);
-    size_t answered = desk_step(e->levels, e->items, requests, whole + REQUEST_BYTES - 1, replies,
-                                sizeof replies);
-    differing += !same(e->name, "desk_step", requests, expected, replies, sizeof replies,
-                       e->steps, answered);
-    memset(replies, GUARD, sizeof replies);
-    answered = desk_step(e->levels, e->items, requests, whole, replies, place - 1);
-    differing += !same(e->name, "desk_step", requests, expected, replies, sizeof replies,
-                       e->steps - 1, answered);
-    calls += 2;
 }
 
 int main(void) {

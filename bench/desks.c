@@ -40,8 +40,12 @@ static size_t run_bdb(const uint8_t *levels, size_t n, const uint8_t *requests,
 #ifdef WITH_PROVED
 static size_t run_turn(const uint8_t *levels, size_t n, const uint8_t *requests,
                        size_t requests_len, uint8_t *replies, size_t replies_len) {
-    return desk_run(levels, n, requests, requests_len, replies, replies_len,
-                    requests_len / REQUEST_BYTES);
+    return desk_turn(levels, n, requests, requests_len, replies, replies_len, SIZE_MAX);
+}
+
+static size_t run_in_place(const uint8_t *levels, size_t n, const uint8_t *requests,
+                           size_t requests_len, uint8_t *replies, size_t replies_len) {
+    return desk_turn_in_place(levels, n, requests, requests_len, replies, replies_len, SIZE_MAX);
 }
 #endif
 
@@ -50,8 +54,8 @@ const struct desk desks[] = {
     {"steps", open_later, steps_run},
     {"tuned", open_later, run_tuned},
 #ifdef WITH_PROVED
+    {"in_place", open_later, run_in_place},
     {"turn", open_later, run_turn},
-    {"step", open_later, desk_step},
 #endif
 #ifdef WITH_BDB
     {"bdb", bdb_open, run_bdb},

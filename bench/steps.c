@@ -1,4 +1,4 @@
-// The plain C desk by value: the house comes and goes with every request, as it does with the proved `step`. It has its own copy
+// The plain C desk by value: the house comes and goes with every request, as it does with the proved `turn`. It has its own copy
 // of the plain desk, so that the yardstick is compiled as it is alone.
 #define plain_open steps_open
 #define plain_turn steps_turn

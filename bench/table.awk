@@ -1,8 +1,8 @@
 # The table in Markdown, from the raw figures.
 BEGIN {
     FS = ","
-    words["plain"] = "plain C"; words["steps"] = "plain C, by value"; words["tuned"] = "tuned C"; words["turn"] = "**proved `turn`**"
-    words["step"] = "**proved `step`**"; words["bdb"] = "Berkeley DB's lock table"
+    words["plain"] = "plain C"; words["steps"] = "plain C, by value"; words["tuned"] = "tuned C"
+    words["in_place"] = "**proved `turn_in_place`**"; words["turn"] = "**proved `turn`**, by value"; words["bdb"] = "Berkeley DB's lock table"
     split("refused done pressed", mixes, " ")
     heads["refused"] = "refused-heavy"; heads["done"] = "done-heavy"; heads["pressed"] = "pressed"
     split("begin read write certify commit abort ask", operations, " ")

@@ -1,16 +1,16 @@
-// The desk: one request by value (`step`), and a turn of many out of lent bytes (`turn`). Each request is judged over parts of
-// the house. `step` has the change made by `perform`; `turn` makes it where the house lies, because a copy of the house costs
-// more than most requests.
+// The desk: one request by value (`step`), and a turn of many out of lent bytes (`turn`), in which the house passes through each step
+// by value. `turn_in_place` is the same turn for a caller who wants the house changed where it lies: it judges in the same way, and
+// makes each change by the same functions as `perform`, without a copy of the house for each request.
 
 mod bytes;
+mod in_place;
 mod running;
 mod single;
-mod stepping;
 
 use house::House;
+pub use in_place::turn_in_place;
 pub use running::turn;
 pub use single::step;
-pub use stepping::turn_by_steps;
 
 // The house after a turn, and how many requests were answered.
 pub struct Served {

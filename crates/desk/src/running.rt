@@ -1,4 +1,4 @@
-// A turn: whole requests out of lent bytes, answered in order into lent bytes. The house comes by value once.
+// The run of document 01: whole requests out of lent bytes, answered in order into lent bytes, step after step.
 
 ghost use mathlib.Core.Path.{_≡_};
 ghost use Rattle.desk.specs.Turn.{turned, answered};
@@ -6,21 +6,8 @@ use crate::Served;
 use crate::bytes::least;
 use crate::bytes::put_reply;
 use crate::bytes::request_at;
+use crate::single::step;
 use house::House;
-use house::Mark;
-use judge::judge;
-use parts::active;
-use parts::certified;
-use parts::left_free;
-use parts::next_ticket;
-use parts::reply_to;
-use parts::with_pending;
-use ruling::Change;
-use sweeps::certify_cells;
-use sweeps::clear_cells;
-use sweeps::end_items;
-use sweeps::has_claimed;
-use sweeps::mark_cell;
 
 pub fn turn(h: House, requests: &[u8], replies: &mut [u8], most: usize) -> Served
     ensures { λ r. ⌜ (r ≡ turned h (now (requests .entry)) (now (replies .entry)) most)
@@ -31,53 +18,11 @@ pub fn turn(h: House, requests: &[u8], replies: &mut [u8], most: usize) -> Serve
     let mut n = 0;
     while n < count {
         let q = request_at(requests, n * 12);
-        let level = (q.level % 4) as usize;
-        let ticket = h.next[level];
-        let item = (q.item % 64) as usize;
-        let x = h.items[item];
-        let b = level * 8;
-        let p0 = h.places[b];
-        let p1 = h.places[b + 1];
-        let p2 = h.places[b + 2];
-        let p3 = h.places[b + 3];
-        let p4 = h.places[b + 4];
-        let p5 = h.places[b + 5];
-        let p6 = h.places[b + 6];
-        let p7 = h.places[b + 7];
-        let eight = [p0, p1, p2, p3, p4, p5, p6, p7];
-        let ruling = judge(h.count, eight, ticket, x, &h.cells, q);
-        let answer = ruling.answer;
-        put_reply(replies, n * 16, reply_to(q, answer));
+        let stepped = step(h, q);
+        let reply = stepped.reply;
+        put_reply(replies, n * 16, reply);
+        h = stepped.house;
         n += 1;
-        let change = ruling.change;
-        match change {
-            Change::Nothing => {}
-            Change::Begin(l, me) => {
-                let t = h.next[l];
-                h.places[me] = active(t);
-                h.next[l] = next_ticket(t);
-            }
-            Change::Read(me, i) => mark_cell(&mut h.cells, Mark::Read, me, i),
-            Change::Write(me, i, value) => {
-                mark_cell(&mut h.cells, Mark::Write, me, i);
-                let row = h.items[i];
-                h.items[i] = with_pending(row, value);
-            }
-            Change::Certify(me) => {
-                certify_cells(&mut h.cells, me);
-                let place = h.places[me];
-                h.places[me] = certified(place);
-            }
-            Change::End(me, commits) => {
-                if has_claimed(&h.cells, me) {
-                    let items = h.items;
-                    let ended = end_items(items, &h.cells, me, commits);
-                    h.items = ended;
-                }
-                clear_cells(&mut h.cells, me);
-                h.places[me] = left_free();
-            }
-        }
     }
     Served { house: h, count }
 }

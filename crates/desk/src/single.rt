@@ -9,6 +9,7 @@ use judge::judge;
 use parts::reply_to;
 use perform::perform;
 use ruling::Change;
+use ruling::View;
 
 pub fn step(h: House, q: Request) -> Outcome
     ensures { λ r. ⌜ r ≡ stepped h q ⌝ }
@@ -16,7 +17,8 @@ pub fn step(h: House, q: Request) -> Outcome
     let level = (q.level % 4) as usize;
     let ticket = h.next[level];
     let item = (q.item % 64) as usize;
-    let x = h.items[item];
+    let row = h.items[item];
+    let pending = h.pending[item];
     let b = level * 8;
     let p0 = h.places[b];
     let p1 = h.places[b + 1];
@@ -26,8 +28,14 @@ pub fn step(h: House, q: Request) -> Outcome
     let p5 = h.places[b + 5];
     let p6 = h.places[b + 6];
     let p7 = h.places[b + 7];
-    let eight = [p0, p1, p2, p3, p4, p5, p6, p7];
-    let ruling = judge(h.count, eight, ticket, x, &h.cells, q);
+    let view = View {
+        count: h.count,
+        eight: [p0, p1, p2, p3, p4, p5, p6, p7],
+        ticket,
+        row,
+        pending,
+    };
+    let ruling = judge(view, &h.cells, q);
     let answer = ruling.answer;
     let reply = reply_to(q, answer);
     let change = ruling.change;

@@ -1,13 +1,14 @@
--- What the number of a request says: 0 that no check applies, and for a transaction's request where it stands.
+-- What the number of a request says: which check is the first that applies, and of one that no refusal meets where its
+-- transaction stands.
 -- Assumes nothing.
 use Prim.Native.Nat.{ℕ, _≤_, _<_}
 use native.Mathlib.Omega.{arith}
-use mathlib.Core.Path.{_≡_, refl, ap, _∙_}
+use mathlib.Core.Path.{_≡_, refl, sym, ap, _∙_}
 use mathlib.Core.Logic.{_≢_, inl, inr}
-use mathlib.Core.Bool.{Bool, true, false, _&&_, not}
-use mathlib.Core.List.{List, [], _∷_}
+use mathlib.Core.Bool.{Bool, true, false, _&&_, _||_, not, cond}
+use mathlib.Core.List.{List, [], _∷_, _++_}
 use lib.Dec.{eqb}
-use borrow.Author.Tests.{eq-eqb, ne-eqb, ltb-false}
+use borrow.Author.Tests.{eq-eqb, ne-eqb, eqb-true, eqb-false, ltb-false, not-true}
 use Rattle.house.specs.declared.Found.{Found}
 use Rattle.house.specs.declared.Found.the-variants.{At, Nobody}
 use Rattle.house.specs.declared.House.{House}
@@ -15,29 +16,87 @@ use Rattle.house.specs.declared.Mark.the-variants.{Write}
 use Rattle.house.specs.declared.Request.{Request}
 use Rattle.house.specs.Search.{any, nobody}
 use Rattle.house.specs.Cell.{holds}
-use Rattle.house.specs.Rules.{asker, noOperation, noLevel, unusedSet, unknown, noItem, forbidden, stopped, untimely, wornOut, crowded, ticketless, delayed, checks, foremost, verdict, waitsAt}
-use Rattle.house.proofs.Tests.{is, clash, and-true, and-right-false, not-of}
+use Rattle.house.specs.Checks.{foremost, someApplies, testOf, before}
+use Rattle.house.specs.Rules.{asker, noOperation, noLevel, unusedSet, unknown, noItem, forbidden, stopped, untimely, wornOut, crowded, ticketless, delayed, refusals, checks, verdict, waitsAt}
+use Rattle.house.proofs.Tests.{is, clash, and-true, and-right-false, and-no, or-false, not-of}
 use Rattle.house.proofs.Searches.{scan-same, any-none}
 
--- a list of checks none of which applies, and one with no number 0 in it
-abbrev pub NoneApplies : List (ℕ × Bool) → Type 0
-NoneApplies [] = Unit {0}
-NoneApplies (x ∷ xs) = (x .1 ≡ false) × NoneApplies xs
+-- LISTS OF CHECKS
 
+-- none has the number 0
 abbrev pub numbered : List (ℕ × Bool) → Bool
 numbered [] = true
 numbered (x ∷ xs) = not (eqb (x .0) 0) && numbered xs
 
-pub none-applies : (l : List (ℕ × Bool)) → numbered l ≡ true → foremost l ≡ 0 → NoneApplies l
-none-applies [] n e = tt
+-- where the first that applies has the number 0, none does
+pub none-applies : (l : List (ℕ × Bool)) → numbered l ≡ true → foremost l ≡ 0 → someApplies l ≡ false
+none-applies [] n e = refl
 none-applies (x ∷ xs) n e =
     let k = and-true (not (eqb (x .0) 0)) (numbered xs) n in
     elim (is (x .1)) [
       | inl b ↦ clash (k .0) (ap not (eq-eqb (x .0) 0 (rw b at e)))
-      | inr b ↦ (b, none-applies xs (k .1) (rw b at e))
+      | inr b ↦ rw b (none-applies xs (k .1) (rw b at e))
     ]
 
--- what a request with the number 0 has passed, check by check
+pub none-given : (l : List (ℕ × Bool)) → someApplies l ≡ false → foremost l ≡ 0
+none-given [] e = refl
+none-given (x ∷ xs) e = let k = or-false (x .1) (someApplies xs) e in rw (k .0) (none-given xs (k .1))
+
+-- and no test of the list holds, whichever number it has
+pub test-fails : (l : List (ℕ × Bool)) → someApplies l ≡ false → (n : ℕ) → testOf n l ≡ false
+test-fails [] e n = refl
+test-fails (x ∷ xs) e n =
+    let k = or-false (x .1) (someApplies xs) e in
+    elim (is (eqb (x .0) n)) [ inl y ↦ rw y (k .0) | inr y ↦ rw y (test-fails xs (k .1) n) ]
+
+-- the number n is there; no number is there twice
+abbrev has : ℕ → List (ℕ × Bool) → Bool
+has n [] = false
+has n (x ∷ xs) = eqb (x .0) n || has n xs
+
+abbrev pub distinct : List (ℕ × Bool) → Bool
+distinct [] = true
+distinct (x ∷ xs) = not (has (x .0) xs) && distinct xs
+
+not-given : (l : List (ℕ × Bool)) (n : ℕ) → n ≢ 0 → has n l ≡ false → eqb (foremost l) n ≡ false
+not-given [] n z e = ne-eqb 0 n (λ q. z (sym q))
+not-given (x ∷ xs) n z e =
+    let k = or-false (eqb (x .0) n) (has n xs) e in
+    elim (is (x .1)) [ inl y ↦ rw y (k .0) | inr y ↦ rw y (not-given xs n z (k .1)) ]
+
+-- n is given exactly when its test holds and none before it does
+pub first-given : (l : List (ℕ × Bool)) → distinct l ≡ true → (n : ℕ) → n ≢ 0 → eqb (foremost l) n ≡ (testOf n l && not (someApplies (before n l)))
+first-given [] d n z = ne-eqb 0 n (λ q. z (sym q))
+first-given (x ∷ xs) d n z =
+    let k = and-true (not (has (x .0) xs)) (distinct xs) d in
+    elim (is (eqb (x .0) n)) [
+      | inl e ↦ elim (is (x .1)) [
+        | inl y ↦ rw (e, y) e
+        | inr y ↦ rw (e, y) (not-given xs n z (ap (λ m. has m xs) (sym (eqb-true (x .0) n e)) ∙ not-true _ (k .0)))
+      ]
+      | inr e ↦ elim (is (x .1)) [ inl y ↦ rw (e, y) (e ∙ sym (and-no (testOf n xs))) | inr y ↦ rw (e, y) (first-given xs (k .1) n z) ]
+    ]
+
+-- of two lists, the second is asked where none of the first applies
+pub foremost-append : (l r : List (ℕ × Bool)) → numbered l ≡ true → foremost (l ++ r) ≡ cond (eqb (foremost l) 0) (foremost r) (foremost l)
+foremost-append [] r m = refl
+foremost-append (x ∷ xs) r m =
+    let k = and-true (not (eqb (x .0) 0)) (numbered xs) m in
+    elim (is (x .1)) [ inl y ↦ rw (y, not-true (eqb (x .0) 0) (k .0)) | inr y ↦ rw y (foremost-append xs r (k .1)) ]
+
+-- a number that stands in one list of two, first the other: only then
+pub given-last : (l : List (ℕ × Bool)) (n : ℕ) (b : Bool) → n ≢ 0 → numbered l ≡ true → has n l ≡ false → eqb (foremost (l ++ ((n, b) ∷ []))) n ≡ (eqb (foremost l) 0 && b)
+given-last l n b z m d =
+    rw (foremost-append l ((n, b) ∷ []) m)
+    (elim (is (eqb (foremost l) 0)) [ inl y ↦ rw y (only b) | inr y ↦ rw y (not-given l n z d) ])
+  where
+    only : (b : Bool) → eqb (cond b n 0) n ≡ b
+    only true = eq-eqb n n refl
+    only false = ne-eqb 0 n (λ q. z (sym q))
+
+-- THE CHECKS OF A REQUEST
+
+-- what a request that no refusal meets has passed, check by check
 pub record Clear (h : House) (q : Request) : Type 0 where
   pub operation : q .operation ≤ 6
   pub level : q .level < 4
@@ -50,37 +109,45 @@ pub record Clear (h : House) (q : Request) : Type 0 where
   pub fresh : wornOut h q ≡ false
   pub roomy : crowded h q ≡ false
   pub ticketed : ticketless h q ≡ false
-  pub undelayed : delayed h q ≡ false
 
-pub clear : (h : House) (q : Request) → verdict h q ≡ 0 → Clear h q
-unfolding verdict checks noOperation noLevel
+pub clear : (h : House) (q : Request) → foremost (refusals h q) ≡ 0 → Clear h q
+unfolding refusals noOperation noLevel
 clear h q e =
-    let a = none-applies (checks h q) refl e in
-    let b = a .1 .1 .1 in
-    let c = b .1 .1 .1 in
-    let d = c .1 .1 .1 in
+    let past = test-fails (refusals h q) (none-applies (refusals h q) refl e) in
     record {
-      operation = ltb-false 6 (q .operation) (a .0);
-      level = omega (arith, ltb-false 3 (q .level) (a .1 .0));
-      unused = a .1 .1 .0;
-      known = b .0;
-      present = b .1 .0;
-      allowed = b .1 .1 .0;
-      unstopped = c .0;
-      timely = c .1 .0;
-      fresh = c .1 .1 .0;
-      roomy = d .0;
-      ticketed = d .1 .0;
-      undelayed = d .1 .1 .0;
+      operation = ltb-false 6 (q .operation) (past 3);
+      level = omega (arith, ltb-false 3 (q .level) (past 4));
+      unused = past 5;
+      known = past 6;
+      present = past 7;
+      allowed = past 8;
+      unstopped = past 2;
+      timely = past 9;
+      fresh = past 10;
+      roomy = past 11;
+      ticketed = past 12;
     }
+
+-- the number of a request, from its refusals and its delay
+pub verdict-is : (h : House) (q : Request) → verdict h q ≡ cond (eqb (foremost (refusals h q)) 0) (cond (delayed h q) 1 0) (foremost (refusals h q))
+unfolding verdict checks refusals
+verdict-is h q = foremost-append (refusals h q) ((1, delayed h q) ∷ []) refl
+
+-- one with the number 0 is neither refused nor delayed
+pub passes : (h : House) (q : Request) → verdict h q ≡ 0 → (foremost (refusals h q) ≡ 0) × (delayed h q ≡ false)
+passes h q e = neither (foremost (refusals h q)) (delayed h q) (sym (verdict-is h q) ∙ e)
+  where
+    neither : (n : ℕ) (d : Bool) → cond (eqb n 0) (cond d 1 0) n ≡ 0 → (n ≡ 0) × (d ≡ false)
+    neither n true z = elim (is (eqb n 0)) [ inl y ↦ absurd (omega (arith, rw y at z)) | inr y ↦ absurd (eqb-false n 0 y (rw y at z)) ]
+    neither n false z = elim (is (eqb n 0)) [ inl y ↦ (eqb-true n 0 y, refl) | inr y ↦ absurd (eqb-false n 0 y (rw y at z)) ]
 
 -- a search that found somebody found them at a place
 pub somebody : (who : Found) → nobody who ≡ false → (p : ℕ) × (who ≡ At p)
 somebody (At p) e = (p, refl)
 somebody Nobody e = clash refl e
 
--- "Each request for a transaction finds its place or is answered 6": one with the number 0 has found it
-pub asker-known : (h : House) (q : Request) → q .operation ≢ 0 → verdict h q ≡ 0 → (me : ℕ) × (asker h q ≡ At me)
+-- "Each request for a transaction finds its place or is answered 6": one that no refusal meets has found it
+pub asker-known : (h : House) (q : Request) → q .operation ≢ 0 → foremost (refusals h q) ≡ 0 → (me : ℕ) × (asker h q ≡ At me)
 unfolding unknown
 asker-known h q o e =
     somebody (asker h q) (and-right-false (not (eqb (q .operation) 0)) _ (not-of _ (ne-eqb _ 0 o)) (clear h q e .known))

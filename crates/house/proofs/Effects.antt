@@ -4,20 +4,21 @@
 -- Assumes nothing.
 use Prim.Native.Nat.{ℕ, _<_}
 use native.Mathlib.Omega.{arith}
-use mathlib.Core.Path.{_≡_}
-use mathlib.Core.Logic.{_≢_}
+use mathlib.Core.Path.{_≡_, refl, ap}
+use mathlib.Core.Logic.{_≢_, inl, inr}
 use mathlib.Core.List.{List}
 use lib.ListN.{length, set, length-set}
 use lib.Seq.{getD-set-same, getD-set-other}
 use Rattle.house.specs.declared.House.{House}
 use Rattle.house.specs.declared.Item.{Item}
-use Rattle.house.specs.declared.Mark.the-variants.{Read, Write}
+use Rattle.house.specs.declared.Mark.the-variants.{Read, Write, Certify}
 use Rattle.house.specs.declared.Place.{Place}
 use Rattle.house.specs.declared.Standing.the-variants.{Active, Certified}
-use Rattle.house.specs.Cell.{marked, cellAt}
-use Rattle.house.specs.House.{Sizes, blank, vacant, itemAt, placeAt, nextAt, withPending}
-use Rattle.house.specs.Rules.{ticketAfter, begun, readBy, writtenBy, certifiedCell, certifiedBy, clearedCell, left}
-use Rattle.house.proofs.Lists.{length-mapFrom, getD-mapFrom}
+use Rattle.house.specs.Cell.{marked, cellAt, holds}
+use Rattle.house.specs.House.{fixed, Sizes, blank, vacant, itemAt, pendingAt, placeAt, nextAt}
+use Rattle.house.specs.Rules.{ticketAfter, begun, readBy, writtenBy, certifiedCell, certifiedBy, clearedCell, droppedPending, left, committedItem, committedBy, abortedBy}
+use Rattle.house.proofs.Tests.{is}
+use Rattle.house.proofs.Lists.{length-mapFrom, getD-mapFrom, map-mapFrom-same}
 use Rattle.house.proofs.Cells.{cell-here, cell-elsewhere, cell-mapped, length-withMark, length-mapCells}
 
 -- a list with one element set, read there and elsewhere
@@ -31,7 +32,7 @@ module _ {h : House} (z : Sizes h) where
   -- Begin
   pub begun-sizes : (l me : ℕ) → Sizes (begun h l me)
   unfolding begun
-  begun-sizes l me = record { items = z .items; places = simp length-set (z .places); next = simp length-set (z .next); cells = z .cells }
+  begun-sizes l me = record { items = z .items; pending = z .pending; places = simp length-set (z .places); next = simp length-set (z .next); cells = z .cells }
 
   pub begun-place : (l me : ℕ) → me < 32 → placeAt (begun h l me .places) me ≡ record { standing = Active; ticket = nextAt (h .next) l }
   unfolding begun
@@ -44,7 +45,7 @@ module _ {h : House} (z : Sizes h) where
   -- Read
   pub read-sizes : (me i : ℕ) → Sizes (readBy h me i)
   unfolding readBy
-  read-sizes me i = record { items = z .items; places = z .places; next = z .next; cells = length-withMark (h .cells) (z .cells) Read me i }
+  read-sizes me i = record { items = z .items; pending = z .pending; places = z .places; next = z .next; cells = length-withMark (h .cells) (z .cells) Read me i }
 
   pub read-cell : (me i : ℕ) → me < 32 → i < 64 → cellAt (readBy h me i .cells) me i ≡ marked Read (cellAt (h .cells) me i)
   unfolding readBy
@@ -53,20 +54,20 @@ module _ {h : House} (z : Sizes h) where
   -- Write
   pub written-sizes : (me i v : ℕ) → Sizes (writtenBy h me i v)
   unfolding writtenBy
-  written-sizes me i v = record { items = simp length-set (z .items); places = z .places; next = z .next; cells = length-withMark (h .cells) (z .cells) Write me i }
+  written-sizes me i v = record { items = z .items; pending = simp length-set (z .pending); places = z .places; next = z .next; cells = length-withMark (h .cells) (z .cells) Write me i }
 
   pub written-cell : (me i v : ℕ) → me < 32 → i < 64 → cellAt (writtenBy h me i v .cells) me i ≡ marked Write (cellAt (h .cells) me i)
   unfolding writtenBy
   written-cell me i v b a = cell-here (h .cells) (z .cells) Write me i b a
 
-  pub written-item : (me i v : ℕ) → i < 64 → itemAt (writtenBy h me i v .items) i ≡ withPending (itemAt (h .items) i) v
+  pub written-pending : (me i v : ℕ) → i < 64 → pendingAt (writtenBy h me i v .pending) i ≡ v
   unfolding writtenBy
-  written-item me i v a = let n = z .items in getD-set-same (h .items) i _ blank (omega arith)
+  written-pending me i v a = let n = z .pending in getD-set-same (h .pending) i v 0 (omega arith)
 
   -- Certify
   pub certified-sizes : (me : ℕ) → Sizes (certifiedBy h me)
   unfolding certifiedBy
-  certified-sizes me = record { items = z .items; places = simp length-set (z .places); next = z .next; cells = length-mapCells (h .cells) (z .cells) (certifiedCell (h .cells) me) }
+  certified-sizes me = record { items = z .items; pending = z .pending; places = simp length-set (z .places); next = z .next; cells = length-mapCells (h .cells) (z .cells) (certifiedCell (h .cells) me) }
 
   pub certified-place : (me : ℕ) → me < 32 → placeAt (certifiedBy h me .places) me ≡ record { standing = Certified; ticket = placeAt (h .places) me .ticket }
   unfolding certifiedBy
@@ -77,21 +78,29 @@ module _ {h : House} (z : Sizes h) where
   certified-cell me p i b a = cell-mapped (h .cells) (z .cells) (certifiedCell (h .cells) me) p i b a
 
   -- Commit and abort
-  pub left-sizes : (f : ℕ → Item → Item) (me : ℕ) → Sizes (left f h me)
+  pub left-sizes : (me : ℕ) → Sizes (left h me)
   unfolding left
-  left-sizes f me = record { items = simp length-mapFrom (z .items); places = simp length-set (z .places); next = z .next; cells = length-mapCells (h .cells) (z .cells) (clearedCell me) }
+  left-sizes me = record { items = z .items; pending = simp length-mapFrom (z .pending); places = simp length-set (z .places); next = z .next; cells = length-mapCells (h .cells) (z .cells) (clearedCell me) }
 
-  pub left-item : (f : ℕ → Item → Item) (me i : ℕ) → i < 64 → itemAt (left f h me .items) i ≡ f i (itemAt (h .items) i)
+  pub left-pending : (me i : ℕ) → i < 64 → pendingAt (left h me .pending) i ≡ droppedPending (h .cells) me i (pendingAt (h .pending) i)
   unfolding left
-  left-item f me i a = let n = z .items in getD-mapFrom f (h .items) i blank (omega arith)
+  left-pending me i a = let n = z .pending in getD-mapFrom (droppedPending (h .cells) me) (h .pending) i 0 (omega arith)
 
-  pub left-place : (f : ℕ → Item → Item) (me : ℕ) → me < 32 → placeAt (left f h me .places) me ≡ vacant
+  pub left-place : (me : ℕ) → me < 32 → placeAt (left h me .places) me ≡ vacant
   unfolding left
-  left-place f me b = place-set (h .places) (z .places) me _ b
+  left-place me b = place-set (h .places) (z .places) me _ b
 
-  pub left-cell : (f : ℕ → Item → Item) (me p i : ℕ) → p < 32 → i < 64 → cellAt (left f h me .cells) p i ≡ clearedCell me p i (cellAt (h .cells) p i)
+  pub left-cell : (me p i : ℕ) → p < 32 → i < 64 → cellAt (left h me .cells) p i ≡ clearedCell me p i (cellAt (h .cells) p i)
   unfolding left
-  left-cell f me p i b a = cell-mapped (h .cells) (z .cells) (clearedCell me) p i b a
+  left-cell me p i b a = cell-mapped (h .cells) (z .cells) (clearedCell me) p i b a
+
+  pub committed-sizes : (me : ℕ) → Sizes (committedBy h me)
+  committed-sizes me =
+      let y = left-sizes me in
+      record { items = simp length-mapFrom (z .items); pending = y .pending; places = y .places; next = y .next; cells = y .cells }
+
+  pub committed-item : (me i : ℕ) → i < 64 → itemAt (committedBy h me .items) i ≡ committedItem (h .cells) (h .pending) me i (itemAt (h .items) i)
+  committed-item me i a = let n = z .items in getD-mapFrom (committedItem (h .cells) (h .pending) me) (h .items) i blank (omega arith)
 
 -- What an effect does not reach
 
@@ -112,14 +121,45 @@ module _ (h : House) where
   unfolding writtenBy
   written-cell-other me i v p j a b n = cell-elsewhere Write (h .cells) me i p j a b n
 
-  pub written-item-other : (me i v j : ℕ) → j ≢ i → itemAt (writtenBy h me i v .items) j ≡ itemAt (h .items) j
+  pub written-pending-other : (me i v j : ℕ) → j ≢ i → pendingAt (writtenBy h me i v .pending) j ≡ pendingAt (h .pending) j
   unfolding writtenBy
-  written-item-other me i v j n = getD-set-other (h .items) i j _ blank n
+  written-pending-other me i v j n = getD-set-other (h .pending) i j v 0 n
 
   pub certified-place-other : (me p : ℕ) → p ≢ me → placeAt (certifiedBy h me .places) p ≡ placeAt (h .places) p
   unfolding certifiedBy
   certified-place-other me p n = place-other (h .places) me p _ n
 
-  pub left-place-other : (f : ℕ → Item → Item) (me p : ℕ) → p ≢ me → placeAt (left f h me .places) p ≡ placeAt (h .places) p
+  pub left-place-other : (me p : ℕ) → p ≢ me → placeAt (left h me .places) p ≡ placeAt (h .places) p
   unfolding left
-  left-place-other f me p n = place-other (h .places) me p _ n
+  left-place-other me p n = place-other (h .places) me p _ n
+
+-- What an opening fixed stays
+
+module _ (h : House) where
+  pub begun-fixed : (l me : ℕ) → fixed (begun h l me) ≡ fixed h
+  unfolding fixed begun
+  begun-fixed l me = refl
+
+  pub read-fixed : (me i : ℕ) → fixed (readBy h me i) ≡ fixed h
+  unfolding fixed readBy
+  read-fixed me i = refl
+
+  pub written-fixed : (me i v : ℕ) → fixed (writtenBy h me i v) ≡ fixed h
+  unfolding fixed writtenBy
+  written-fixed me i v = refl
+
+  pub certified-fixed : (me : ℕ) → fixed (certifiedBy h me) ≡ fixed h
+  unfolding fixed certifiedBy
+  certified-fixed me = refl
+
+  committed-level : (me i : ℕ) (x : Item) → committedItem (h .cells) (h .pending) me i x .level ≡ x .level
+  unfolding committedItem
+  committed-level me i x = elim (is (holds (h .cells) Certify me i)) [ inl e ↦ rw e | inr e ↦ rw e ]
+
+  pub committed-fixed : (me : ℕ) → fixed (committedBy h me) ≡ fixed h
+  unfolding fixed left
+  committed-fixed me = ap (λ l. (h .count, l)) (map-mapFrom-same (λ x. x .level) 0 (committedItem (h .cells) (h .pending) me) (h .items) (committed-level me))
+
+  pub aborted-fixed : (me : ℕ) → fixed (abortedBy h me) ≡ fixed h
+  unfolding fixed left
+  aborted-fixed me = refl

@@ -1,4 +1,5 @@
 pub mod Tests
+pub mod Levels
 pub mod Searches
 pub mod Lists
 pub mod Cells

@@ -2,7 +2,7 @@
 -- Assumes nothing.
 use Prim.Native.Nat.{ℕ, _*_, _/_}
 use mathlib.Core.Bool.{Bool, true, false, _&&_, not}
-use mathlib.Core.List.{List}
+use mathlib.Core.List.{List, map}
 use mathlib.Core.Path.{_≡_}
 use lib.ListN.{length, getD, set}
 use lib.Dec.{eqb, leb}
@@ -27,13 +27,17 @@ levelOf p = p / 8
 
 -- a row past the last item, and a free place
 abbrev pub blank : Item
-blank = record { level = 0; value = 0; version = 0; pending = 0 }
+blank = record { level = 0; value = 0; version = 0 }
 
 abbrev pub vacant : Place
 vacant = record { standing = Free; ticket = 0 }
 
 abbrev pub itemAt : List Item → ℕ → Item
 itemAt items i = getD items i blank
+
+-- "a pending value, 0 when nobody has written"
+abbrev pub pendingAt : List ℕ → ℕ → ℕ
+pendingAt pending i = getD pending i 0
 
 abbrev pub placeAt : List Place → ℕ → Place
 placeAt places p = getD places p vacant
@@ -42,26 +46,31 @@ placeAt places p = getD places p vacant
 abbrev pub nextAt : List ℕ → ℕ → ℕ
 nextAt next l = getD next l 0
 
--- an item, and a house, with one part changed
-
-abbrev pub withPending : Item → ℕ → Item
-withPending x v = record { level = x .level; value = x .value; version = x .version; pending = v }
+-- a house with one part changed
 
 abbrev pub withItems : House → List Item → House
-withItems h items = record { count = h .count; items = items; places = h .places; next = h .next; cells = h .cells }
+withItems h items = record { count = h .count; items = items; pending = h .pending; places = h .places; next = h .next; cells = h .cells }
+
+abbrev pub withPending : House → List ℕ → House
+withPending h pending = record { count = h .count; items = h .items; pending = pending; places = h .places; next = h .next; cells = h .cells }
 
 abbrev pub withPlace : House → ℕ → Place → House
-withPlace h p x = record { count = h .count; items = h .items; places = set (h .places) p x; next = h .next; cells = h .cells }
+withPlace h p x = record { count = h .count; items = h .items; pending = h .pending; places = set (h .places) p x; next = h .next; cells = h .cells }
 
 abbrev pub withNext : House → ℕ → ℕ → House
-withNext h l t = record { count = h .count; items = h .items; places = h .places; next = set (h .next) l t; cells = h .cells }
+withNext h l t = record { count = h .count; items = h .items; pending = h .pending; places = h .places; next = set (h .next) l t; cells = h .cells }
 
 abbrev pub withCells : House → List ℕ → House
-withCells h cells = record { count = h .count; items = h .items; places = h .places; next = h .next; cells = cells }
+withCells h cells = record { count = h .count; items = h .items; pending = h .pending; places = h .places; next = h .next; cells = cells }
+
+-- what an opening fixes: how many items there are, and each item's "fixed level"
+unfoldable pub fixed : House → ℕ × List ℕ
+fixed h = (h .count, map (λ x. x .level) (h .items))
 
 -- the lists of a house are as long as the arrays they stand for
 pub record Sizes (h : House) : Type 0 where
   pub items : length (h .items) ≡ 64
+  pub pending : length (h .pending) ≡ 64
   pub places : length (h .places) ≡ 32
   pub next : length (h .next) ≡ 4
   pub cells : length (h .cells) ≡ 2048

@@ -10,7 +10,7 @@ use Rattle.house.specs.declared.Item.{Item}
 use Rattle.house.specs.declared.Opening.{Opening}
 use Rattle.house.specs.Search.{any, mapFrom}
 use Rattle.house.specs.House.{blank, vacant}
-use Rattle.house.specs.Rules.{foremost}
+use Rattle.house.specs.Checks.{foremost}
 
 -- "length 0 or above 64"
 unfoldable pub wrongLength : List ℕ → Bool
@@ -29,7 +29,7 @@ openVerdict levels = foremost ((13, wrongLength levels) ∷ (14, wrongLevel leve
 
 -- an item of that level: "both 32 bits, both 0 at opening"
 abbrev pub unsaved : ℕ → Item
-unsaved l = record { level = l; value = 0; version = 0; pending = 0 }
+unsaved l = record { level = l; value = 0; version = 0 }
 
 -- the 64 rows. "Rows past the last item .. hold 0"
 unfoldable pub rowAt : List ℕ → ℕ → Item → Item
@@ -38,12 +38,12 @@ rowAt levels i x = unsaved (getD levels i 0)
 unfoldable pub rows : List ℕ → List Item
 rows levels = mapFrom 0 (rowAt levels) (replicate 64 blank)
 
--- "every place free and every next ticket 1"; all cells "are clear at opening"
+-- nothing pending, "every place free and every next ticket 1"; all cells "are clear at opening"
 unfoldable pub opened : List ℕ → House
-opened levels = record { count = length levels; items = rows levels; places = replicate 32 vacant; next = replicate 4 1; cells = replicate 2048 0 }
+opened levels = record { count = length levels; items = rows levels; pending = replicate 64 0; places = replicate 32 vacant; next = replicate 4 1; cells = replicate 2048 0 }
 
 -- "A refused opening yields a house of no items with every place free and every next ticket 1."
 unfoldable pub opening : List ℕ → Opening
 opening levels =
     let n = openVerdict levels in
-    record { number = n; house = opened (cond (eqb n 0) levels []) }
+    record { number = n; house = cond (eqb n 0) (opened levels) (opened []) }

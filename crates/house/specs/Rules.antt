@@ -3,7 +3,7 @@
 -- Assumes nothing.
 use Prim.Native.Nat.{ℕ, _+_}
 use mathlib.Core.Bool.{Bool, false, _&&_, _||_, not, cond}
-use mathlib.Core.List.{List, [], _∷_}
+use mathlib.Core.List.{List, [], _∷_, _++_}
 use lib.ListN.{set}
 use lib.Dec.{eqb, ltb, leb}
 use Rattle.house.specs.declared.Answer.{Answer}
@@ -17,8 +17,9 @@ use Rattle.house.specs.declared.Reply.{Reply}
 use Rattle.house.specs.declared.Request.{Request}
 use Rattle.house.specs.declared.Standing.the-variants.{Active, Certified}
 use Rattle.house.specs.Search.{any, ifFound, nobody, mapFrom}
+use Rattle.house.specs.Checks.{foremost}
 use Rattle.house.specs.Cell.{has, marked, unmarked, withMark, mapCells, holds, otherHolds, peerHolds, isSignalled, firstSignalled, countSignalled}
-use Rattle.house.specs.House.{dominates, above, levelOf, vacant, itemAt, placeAt, nextAt, withPending, withItems, withPlace, withNext, withCells, isActive, isCertified, seek, vacancy}
+use Rattle.house.specs.House.{dominates, above, levelOf, vacant, itemAt, pendingAt, placeAt, nextAt, withItems, withPending, withPlace, withNext, withCells, isActive, isCertified, seek, vacancy}
 
 -- "Operations: 0 begin, 1 read, 2 write, 3 certify, 4 commit, 5 abort, 6 ask."
 
@@ -129,9 +130,9 @@ conflict cells q me =
 unfoldable pub delayed : House → Request → Bool
 delayed h q = ifFound (asker h q) (conflict (h .cells) q) false
 
--- "Order of checks: 3, 4, 5, 6, 7, 8, 2, 9, 10, 11, 12, 1."
-unfoldable pub checks : House → Request → List (ℕ × Bool)
-checks h q =
+-- "Order of checks: 3, 4, 5, 6, 7, 8, 2, 9, 10, 11, 12, 1." First the refusals
+unfoldable pub refusals : House → Request → List (ℕ × Bool)
+refusals h q =
     (3, noOperation q)
     ∷ (4, noLevel q)
     ∷ (5, unusedSet q)
@@ -143,14 +144,13 @@ checks h q =
     ∷ (10, wornOut h q)
     ∷ (11, crowded h q)
     ∷ (12, ticketless h q)
-    ∷ (1, delayed h q)
     ∷ []
 
--- "The first that applies is given, and it is given only then." 0 where none does
-abbrev pub foremost : List (ℕ × Bool) → ℕ
-foremost [] = 0
-foremost (x ∷ xs) = cond (x .1) (x .0) (foremost xs)
+-- and then the delay
+unfoldable pub checks : House → Request → List (ℕ × Bool)
+checks h q = refusals h q ++ (1, delayed h q) ∷ []
 
+-- "The first that applies is given, and it is given only then." 0 where none does
 unfoldable pub verdict : House → Request → ℕ
 verdict h q = foremost (checks h q)
 
@@ -176,43 +176,57 @@ readBy h me i = withCells h (withMark Read (h .cells) me i)
 
 -- "A transaction that holds the write lock gets the pending value and the committed version plus one. Any other gets the
 -- committed pair."
-unfoldable pub readAnswer : List ℕ → Item → ℕ → ℕ → Answer
-readAnswer cells x me i = cond (holds cells Write me i) (Pair (x .pending) (grown (x .version))) (Pair (x .value) (x .version))
+unfoldable pub readAnswer : List ℕ → Item → ℕ → ℕ → ℕ → Answer
+readAnswer cells x pending me i = cond (holds cells Write me i) (Pair pending (grown (x .version))) (Pair (x .value) (x .version))
+
+abbrev pub readFor : House → ℕ → ℕ → Answer
+readFor h me i = readAnswer (h .cells) (itemAt (h .items) i) (pendingAt (h .pending) i) me i
 
 -- Write: "the write lock is set and the pending value is the given one, also on a second write"
 unfoldable pub writtenBy : House → ℕ → ℕ → ℕ → House
-writtenBy h me i v = withItems (withCells h (withMark Write (h .cells) me i)) (set (h .items) i (withPending (itemAt (h .items) i) v))
+writtenBy h me i v = withPending (withCells h (withMark Write (h .cells) me i)) (set (h .pending) i v)
 
--- Certify: "all its write locks become certify locks, it is certified, and each read lock on those items held from a higher
--- level is marked signalled". The cell c of place p and item i, after it
+-- Certify: "each read lock on those items held from a higher level is marked signalled". The cell c of place p on an item that
+-- `me` has written
+unfoldable pub signalledCell : ℕ → ℕ → ℕ → ℕ
+signalledCell me p c = cond (above (levelOf p) (levelOf me) && has Read c) (marked Signalled c) c
+
+-- "all its write locks become certify locks"
+unfoldable pub convertedCell : ℕ → ℕ → ℕ → ℕ
+convertedCell me p c = cond (eqb p me) (marked Certify (unmarked Write c)) (signalledCell me p c)
+
+-- the cell c of place p and item i, after it
 unfoldable pub certifiedCell : List ℕ → ℕ → ℕ → ℕ → ℕ → ℕ
-certifiedCell cells me p i c =
-    cond (holds cells Write me i)
-    (cond (eqb p me) (marked Certify (unmarked Write c))
-    (cond (above (levelOf p) (levelOf me) && has Read c) (marked Signalled c)
-    c))
-    c
+certifiedCell cells me p i c = cond (holds cells Write me i) (convertedCell me p c) c
 
+-- "it is certified"
 unfoldable pub certifiedBy : House → ℕ → House
 certifiedBy h me =
     let ticket = placeAt (h .places) me .ticket in
     withPlace (withCells h (mapCells (certifiedCell (h .cells) me) (h .cells))) me (record { standing = Certified; ticket = ticket })
 
--- "all its cells are cleared and its place is free"; what becomes of the items is said by f
+-- Commit and abort: "Pending values of its items go to 0": of those it holds write or certify on
+unfoldable pub droppedPending : List ℕ → ℕ → ℕ → ℕ → ℕ
+droppedPending cells me i v = cond (holds cells Write me i || holds cells Certify me i) 0 v
+
+-- "its cells are cleared, its place is free"
 unfoldable pub clearedCell : ℕ → ℕ → ℕ → ℕ → ℕ
 clearedCell me p i c = cond (eqb p me) 0 c
 
-unfoldable pub left : (ℕ → Item → Item) → House → ℕ → House
-left f h me = withItems (withPlace (withCells h (mapCells (clearedCell me) (h .cells))) me vacant) (mapFrom 0 f (h .items))
+unfoldable pub left : House → ℕ → House
+left h me = withPending (withPlace (withCells h (mapCells (clearedCell me) (h .cells))) me vacant) (mapFrom 0 (droppedPending (h .cells) me) (h .pending))
 
 -- Commit: "Each item with its certify lock takes the pending value, and its version grows by one, however often it was
--- written. Pending goes to 0"
-unfoldable pub committedItem : List ℕ → ℕ → ℕ → Item → Item
-committedItem cells me i x = cond (holds cells Certify me i) (record { level = x .level; value = x .pending; version = grown (x .version); pending = 0 }) x
+-- written."
+unfoldable pub committedItem : List ℕ → List ℕ → ℕ → ℕ → Item → Item
+committedItem cells pending me i x = cond (holds cells Certify me i) (record { level = x .level; value = pendingAt pending i; version = grown (x .version) }) x
 
--- Abort: "Pending values of its items go to 0": of those it holds write or certify on
-unfoldable pub abortedItem : List ℕ → ℕ → ℕ → Item → Item
-abortedItem cells me i x = cond (holds cells Write me i || holds cells Certify me i) (withPending x 0) x
+abbrev pub committedBy : House → ℕ → House
+committedBy h me = withItems (left h me) (mapFrom 0 (committedItem (h .cells) (h .pending) me) (h .items))
+
+-- Abort: as it is left. "Signals it gave to others stand."
+abbrev pub abortedBy : House → ℕ → House
+abortedBy h me = left h me
 
 -- Ask: "the lowest signalled item of the asker and .. how many are signalled (both 0 when none)"
 unfoldable pub askAnswer : List ℕ → ℕ → Answer
@@ -241,11 +255,11 @@ outcome h q a = record { house = h; reply = replied q a }
 -- a done request of the transaction at place `me`
 unfoldable pub served : House → Request → ℕ → Outcome
 served h q me =
-    let read′ = outcome (readBy h me (q .item)) q (readAnswer (h .cells) (itemAt (h .items) (q .item)) me (q .item)) in
+    let read′ = outcome (readBy h me (q .item)) q (readFor h me (q .item)) in
     let write′ = outcome (writtenBy h me (q .item) (q .value)) q Done in
     let certify′ = outcome (certifiedBy h me) q Done in
-    let commit′ = outcome (left (committedItem (h .cells) me) h me) q Done in
-    let abort′ = outcome (left (abortedItem (h .cells) me) h me) q Done in
+    let commit′ = outcome (committedBy h me) q Done in
+    let abort′ = outcome (abortedBy h me) q Done in
     let ask′ = outcome h q (askAnswer (h .cells) me) in
     cond (q does read) read′
     (cond (q does write) write′

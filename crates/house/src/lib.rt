@@ -1,12 +1,11 @@
 // The types of the desk: the house it keeps, the requests it takes, the replies it gives.
 // What they mean, and what the desk does with them, is said in specs/.
 
-// A row of the atlas. Its level is fixed; `pending` is 0 while nobody has written the item.
+// A row of the committed table. Its level is fixed.
 pub struct Item {
     pub level: u8,
     pub value: u32,
     pub version: u32,
-    pub pending: u32,
 }
 
 pub enum Standing {
@@ -21,11 +20,14 @@ pub struct Place {
     pub ticket: u32,
 }
 
-// The house passes through each step by value. Place p of level l is number l * 8 + p; a cell is a byte, the sum of the
-// weights of its marks, and the cells of one place lie together, so that a transaction's own 64 are scanned in one sweep.
+// The house passes through each step by value. Of the two versions of an item the committed one stands in its row; "a pending
+// value, 0 when nobody has written" in a table beside it, which, being of numbers, can be lent. Place p of level l is number
+// l * 8 + p; a cell is a byte, the sum of the weights of its marks, and the cells of one place lie together, so that a
+// transaction's own 64 are scanned in one sweep.
 pub struct House {
     pub count: usize,
     pub items: [Item; 64],
+    pub pending: [u32; 64],
     pub places: [Place; 32],
     pub next: [u32; 4],
     pub cells: [u8; 2048],

@@ -12,4 +12,4 @@ use Rattle.judge.proofs.judge.Reads as reads
 use Rattle.ruling.proofs.Judged.{judged-settles}
 
 pub judge-settled : (κs : Lifetimes.Lfts 1) (a : World.ArgsD judge.signature κs) (r r′ : World.ResD judge.signature κs) (s s′ : Clauses.AtExit (Kinds'.endedOf 1 Kinds.ps Kinds.r) κs) → reads.Post κs a r s → reads.Post κs a r′ s′ → r ≡ r′
-judge-settled κs a r r′ s s′ p q = judged-settles _ _ _ _ _ _ _ _ p q
+judge-settled κs a r r′ s s′ p q = judged-settles _ _ _ _ _ p q

@@ -19,14 +19,15 @@ use house::Item;
 use house::Mark;
 use house::Place;
 use house::Request;
-use house::Standing;
 use parts::grow;
 use places::is_active;
 use places::is_certified;
 use places::lookup;
 use places::lowest_free;
+use ruling::Case;
 use ruling::Change;
 use ruling::Ruling;
+use ruling::View;
 use scans::count_signalled;
 use scans::first_signalled;
 use scans::holds_mark;
@@ -83,12 +84,12 @@ fn does_not_dominate(level: u8, item: u8) -> bool
     !(item <= level)
 }
 
-fn answer_read(cells: &[u8; 2048], x: Item, me: usize, i: usize) -> Answer
+fn answer_read(cells: &[u8; 2048], x: Item, pending: u32, me: usize, i: usize) -> Answer
     requires { ⌜ (me < 32) × (i < 64) ⌝ }
-    ensures { λ r. ⌜ r ≡ readAnswer (now (cells .entry)) x me i ⌝ }
+    ensures { λ r. ⌜ r ≡ readAnswer (now (cells .entry)) x pending me i ⌝ }
 {
     if holds_mark(cells, Mark::Write, me, i) {
-        return Answer::Pair(x.pending, grow(x.version));
+        return Answer::Pair(pending, grow(x.version));
     }
     Answer::Pair(x.value, x.version)
 }
@@ -117,19 +118,17 @@ fn judge_begin(eight: [Place; 8], ticket: u32, level: usize) -> Ruling
     allow(Answer::Ticket(ticket), Change::Begin(level, level * 8 + k))
 }
 
-fn judge_read(
-    count: usize,
-    x: Item,
-    cells: &[u8; 2048],
-    q: Request,
-    reader: usize,
-    s: Standing,
-) -> Ruling
-    requires { ⌜ reader < 32 ⌝ }
-    ensures { λ r. ⌜ r ≡ readRuled count x (now (cells .entry)) q reader s ⌝ }
+fn judge_read(case: Case, cells: &[u8; 2048]) -> Ruling
+    requires { ⌜ case .me < 32 ⌝ }
+    ensures { λ r. ⌜ r ≡ readRuled case (now (cells .entry)) ⌝ }
 {
+    let q = case.request;
+    let x = case.row;
+    let seat = case.seat;
+    let standing = seat.standing;
+    let reader = case.me;
     let i = q.item as usize;
-    if lacks_item(count, i) {
+    if lacks_item(case.count, i) {
         return refuse(7);
     }
     if does_not_dominate(q.level, x.level) {
@@ -138,28 +137,29 @@ fn judge_read(
     if is_signalled(cells, reader) {
         return refuse(2);
     }
-    if is_certified(s) {
+    if is_certified(standing) {
         return refuse(9);
     }
     if other_holds(cells, Mark::Certify, reader, i) {
         return refuse(1);
     }
-    allow(answer_read(cells, x, reader, i), Change::Read(reader, i))
+    allow(
+        answer_read(cells, x, case.pending, reader, i),
+        Change::Read(reader, i),
+    )
 }
 
-fn judge_write(
-    count: usize,
-    x: Item,
-    cells: &[u8; 2048],
-    q: Request,
-    writer: usize,
-    s: Standing,
-) -> Ruling
-    requires { ⌜ writer < 32 ⌝ }
-    ensures { λ r. ⌜ r ≡ writeRuled count x (now (cells .entry)) q writer s ⌝ }
+fn judge_write(case: Case, cells: &[u8; 2048]) -> Ruling
+    requires { ⌜ case .me < 32 ⌝ }
+    ensures { λ r. ⌜ r ≡ writeRuled case (now (cells .entry)) ⌝ }
 {
+    let q = case.request;
+    let x = case.row;
+    let seat = case.seat;
+    let standing = seat.standing;
+    let writer = case.me;
     let i = q.item as usize;
-    if lacks_item(count, i) {
+    if lacks_item(case.count, i) {
         return refuse(7);
     }
     if x.level != q.level {
@@ -168,7 +168,7 @@ fn judge_write(
     if is_signalled(cells, writer) {
         return refuse(2);
     }
-    if is_certified(s) {
+    if is_certified(standing) {
         return refuse(9);
     }
     if 4294967295 <= x.version {
@@ -180,14 +180,17 @@ fn judge_write(
     allow(Answer::Done, Change::Write(writer, i, q.value))
 }
 
-fn judge_certify(cells: &[u8; 2048], certifier: usize, s: Standing) -> Ruling
-    requires { ⌜ certifier < 32 ⌝ }
-    ensures { λ r. ⌜ r ≡ certifyRuled (now (cells .entry)) certifier s ⌝ }
+fn judge_certify(case: Case, cells: &[u8; 2048]) -> Ruling
+    requires { ⌜ case .me < 32 ⌝ }
+    ensures { λ r. ⌜ r ≡ certifyRuled case (now (cells .entry)) ⌝ }
 {
+    let seat = case.seat;
+    let standing = seat.standing;
+    let certifier = case.me;
     if is_signalled(cells, certifier) {
         return refuse(2);
     }
-    if is_certified(s) {
+    if is_certified(standing) {
         return refuse(9);
     }
     if must_wait(cells, certifier) {
@@ -196,51 +199,41 @@ fn judge_certify(cells: &[u8; 2048], certifier: usize, s: Standing) -> Ruling
     allow(Answer::Done, Change::Certify(certifier))
 }
 
-fn judge_commit(cells: &[u8; 2048], committer: usize, s: Standing) -> Ruling
-    requires { ⌜ committer < 32 ⌝ }
-    ensures { λ r. ⌜ r ≡ commitRuled (now (cells .entry)) committer s ⌝ }
+fn judge_commit(case: Case, cells: &[u8; 2048]) -> Ruling
+    requires { ⌜ case .me < 32 ⌝ }
+    ensures { λ r. ⌜ r ≡ commitRuled case (now (cells .entry)) ⌝ }
 {
+    let seat = case.seat;
+    let standing = seat.standing;
+    let committer = case.me;
     if is_signalled(cells, committer) {
         return refuse(2);
     }
-    if is_active(s) {
+    if is_active(standing) {
         return refuse(9);
     }
     allow(Answer::Done, Change::End(committer, true))
 }
 
-// Past the checks 3, 4, 5 and 6: the request of the transaction at place me, whose standing is s.
-fn judge_known(
-    count: usize,
-    x: Item,
-    cells: &[u8; 2048],
-    q: Request,
-    me: usize,
-    s: Standing,
-) -> Ruling
-    requires { ⌜ me < 32 ⌝ }
-    ensures { λ r. ⌜ r ≡ knownRuled count x (now (cells .entry)) q me s ⌝ }
+// Past the checks 3, 4, 5 and 6.
+fn judge_known(case: Case, cells: &[u8; 2048]) -> Ruling
+    requires { ⌜ case .me < 32 ⌝ }
+    ensures { λ r. ⌜ r ≡ knownRuled case (now (cells .entry)) ⌝ }
 {
+    let q = case.request;
     let operation = q.operation;
     match operation {
-        1 => judge_read(count, x, cells, q, me, s),
-        2 => judge_write(count, x, cells, q, me, s),
-        3 => judge_certify(cells, me, s),
-        4 => judge_commit(cells, me, s),
-        5 => allow(Answer::Done, Change::End(me, false)),
-        _ => allow(answer_ask(cells, me), Change::Nothing),
+        1 => judge_read(case, cells),
+        2 => judge_write(case, cells),
+        3 => judge_certify(case, cells),
+        4 => judge_commit(case, cells),
+        5 => allow(Answer::Done, Change::End(case.me, false)),
+        _ => allow(answer_ask(cells, case.me), Change::Nothing),
     }
 }
 
-pub fn judge(
-    count: usize,
-    eight: [Place; 8],
-    ticket: u32,
-    x: Item,
-    cells: &[u8; 2048],
-    q: Request,
-) -> Ruling
-    ensures { λ r. ⌜ Judged count eight ticket x (now (cells .entry)) q r ⌝ }
+pub fn judge(view: View, cells: &[u8; 2048], q: Request) -> Ruling
+    ensures { λ r. ⌜ Judged view (now (cells .entry)) q r ⌝ }
 {
     if no_operation(q) {
         return refuse(3);
@@ -252,13 +245,22 @@ pub fn judge(
         return refuse(5);
     }
     let level = q.level as usize;
+    let eight = view.eight;
     if q.operation == 0 {
-        return judge_begin(eight, ticket, level);
+        return judge_begin(eight, view.ticket, level);
     }
     let Found::At(k) = lookup(eight, q.ticket) else {
         return refuse(6);
     };
-    let place = eight[k];
-    let standing = place.standing;
-    judge_known(count, x, cells, q, level * 8 + k, standing)
+    let seat = eight[k];
+    let row = view.row;
+    let case = Case {
+        request: q,
+        count: view.count,
+        row,
+        pending: view.pending,
+        me: level * 8 + k,
+        seat,
+    };
+    judge_known(case, cells)
 }

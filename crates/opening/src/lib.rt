@@ -4,7 +4,7 @@ ghost use mathlib.Core.Path.{_≡_};
 ghost use mathlib.Core.List.{[], _∷_};
 ghost use Prim.Native.Nat.{_<_};
 ghost use lib.ListN.{length, getD};
-ghost use Rattle.house.specs.Rules.{foremost};
+ghost use Rattle.house.specs.Checks.{foremost};
 ghost use Rattle.house.specs.Opening.{wrongLength, highAt, wrongLevel, unsaved, rows, opened, opening};
 use house::House;
 use house::Item;
@@ -58,7 +58,6 @@ fn row(levels: &[u8], i: usize) -> Item
         level,
         value: 0,
         version: 0,
-        pending: 0,
     }
 }
 
@@ -69,7 +68,6 @@ fn all_rows(levels: &[u8]) -> [Item; 64]
         level: 0,
         value: 0,
         version: 0,
-        pending: 0,
     };
     let mut out = [blank; 64];
     for i in 0..64 {
@@ -89,6 +87,7 @@ fn furnish(levels: &[u8]) -> House
     House {
         count: levels.len(),
         items,
+        pending: [0; 64],
         places: [vacant; 32],
         next: [1; 4],
         cells: [0; 2048],

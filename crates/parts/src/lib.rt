@@ -15,7 +15,6 @@ use house::Request;
 pub use rows::active;
 pub use rows::certified;
 pub use rows::left_free;
-pub use rows::with_pending;
 
 fn weigh(m: Mark) -> u8
     ensures { λ r. ⌜ r ≡ weight m ⌝ }

@@ -1,9 +1,8 @@
-// The rows that a change stores: a place as it is taken, certified and left, and an item with a pending value.
+// The rows that a change stores: a place as it is taken, certified and left.
 
 ghost use mathlib.Core.Path.{_≡_};
 ghost use Rattle.house.specs.declared.Standing.the-variants.{Active, Certified};
-ghost use Rattle.house.specs.House.{withPending, vacant};
-use house::Item;
+ghost use Rattle.house.specs.House.{vacant};
 use house::Place;
 use house::Standing;
 
@@ -31,16 +30,5 @@ pub fn left_free() -> Place
     Place {
         standing: Standing::Free,
         ticket: 0,
-    }
-}
-
-pub fn with_pending(x: Item, value: u32) -> Item
-    ensures { λ r. ⌜ r ≡ withPending x value ⌝ }
-{
-    Item {
-        level: x.level,
-        value: x.value,
-        version: x.version,
-        pending: value,
     }
 }

@@ -9,11 +9,11 @@ use parts::active;
 use parts::certified;
 use parts::left_free;
 use parts::next_ticket;
-use parts::with_pending;
 use ruling::Change;
 use sweeps::certify_cells;
 use sweeps::clear_cells;
-use sweeps::end_items;
+use sweeps::commit_items;
+use sweeps::drop_pending;
 use sweeps::has_claimed;
 use sweeps::mark_cell;
 
@@ -47,8 +47,7 @@ pub fn perform(h: House, change: Change) -> House
         Change::Read(me, i) => mark_cell(&mut h.cells, Mark::Read, me, i),
         Change::Write(me, i, value) => {
             mark_cell(&mut h.cells, Mark::Write, me, i);
-            let row = h.items[i];
-            h.items[i] = with_pending(row, value);
+            h.pending[i] = value;
         }
         Change::Certify(me) => {
             certify_cells(&mut h.cells, me);
@@ -56,10 +55,16 @@ pub fn perform(h: House, change: Change) -> House
             h.places[me] = certified(place);
         }
         Change::End(me, commits) => {
-            if has_claimed(&h.cells, me) {
+            let claimed = has_claimed(&h.cells, me);
+            if claimed & commits {
                 let items = h.items;
-                let ended = end_items(items, &h.cells, me, commits);
-                h.items = ended;
+                let committed = commit_items(items, &h.pending, &h.cells, me);
+                h.items = committed;
+            }
+            if claimed {
+                let pending = h.pending;
+                let dropped = drop_pending(pending, &h.cells, me);
+                h.pending = dropped;
             }
             clear_cells(&mut h.cells, me);
             h.places[me] = left_free();

@@ -4,7 +4,7 @@ ghost use mathlib.Core.Path.{_≡_};
 ghost use Rattle.house.specs.Opening.{opening};
 ghost use Rattle.desk.specs.Turn.{turned, answered};
 use desk::turn;
-use desk::turn_by_steps;
+use desk::turn_in_place;
 use opening::open;
 
 // The number of an opening: 0, 13 or 14.
@@ -16,9 +16,14 @@ pub extern "C" fn desk_open(levels: &[u8]) -> u8
     opened.number
 }
 
-// Opens a house and serves one turn in it; the count of the requests answered.
+// Opens a house and serves one turn in it, step after step; the count of the requests answered.
 #[no_mangle]
-pub extern "C" fn desk_run(levels: &[u8], requests: &[u8], replies: &mut [u8], most: usize) -> usize
+pub extern "C" fn desk_turn(
+    levels: &[u8],
+    requests: &[u8],
+    replies: &mut [u8],
+    most: usize,
+) -> usize
     ensures { λ r. ⌜ (r ≡ turned (opening (now (levels .entry)) .house) (now (requests .entry)) (now (replies .entry)) most .count)
         × (now (replies .exit) ≡ answered (opening (now (levels .entry)) .house) (now (requests .entry)) (now (replies .entry)) most) ⌝ }
 {
@@ -28,14 +33,19 @@ pub extern "C" fn desk_run(levels: &[u8], requests: &[u8], replies: &mut [u8], m
     served.count
 }
 
-// The same with a step by value for each request, as many as the requests and the replies allow.
+// The same with the house changed where it lies: the call for many requests.
 #[no_mangle]
-pub extern "C" fn desk_step(levels: &[u8], requests: &[u8], replies: &mut [u8]) -> usize
-    ensures { λ r. ⌜ (r ≡ turned (opening (now (levels .entry)) .house) (now (requests .entry)) (now (replies .entry)) 18446744073709551615 .count)
-        × (now (replies .exit) ≡ answered (opening (now (levels .entry)) .house) (now (requests .entry)) (now (replies .entry)) 18446744073709551615) ⌝ }
+pub extern "C" fn desk_turn_in_place(
+    levels: &[u8],
+    requests: &[u8],
+    replies: &mut [u8],
+    most: usize,
+) -> usize
+    ensures { λ r. ⌜ (r ≡ turned (opening (now (levels .entry)) .house) (now (requests .entry)) (now (replies .entry)) most .count)
+        × (now (replies .exit) ≡ answered (opening (now (levels .entry)) .house) (now (requests .entry)) (now (replies .entry)) most) ⌝ }
 {
     let opened = open(levels);
     let house = opened.house;
-    let served = turn_by_steps(house, requests, replies, 18446744073709551615);
+    let served = turn_in_place(house, requests, replies, most);
     served.count
 }

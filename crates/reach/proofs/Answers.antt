@@ -2,7 +2,7 @@
 -- Assumes nothing.
 use Prim.Native.Nat.{ℕ, _≤_}
 use native.Mathlib.Omega.{arith}
-use mathlib.Core.Path.{_≡_, refl, ap, _∙_}
+use mathlib.Core.Path.{_≡_, refl, sym, ap, _∙_}
 use mathlib.Core.Logic.{inl, inr}
 use mathlib.Core.Bool.{Bool, true, false, _&&_}
 use mathlib.Core.List.{List, [], _∷_}
@@ -15,18 +15,36 @@ use Rattle.house.specs.declared.Found.the-variants.{At, Nobody}
 use Rattle.house.specs.declared.House.{House}
 use Rattle.house.specs.declared.Outcome.{Outcome}
 use Rattle.house.specs.declared.Request.{Request}
-use Rattle.house.specs.House.{itemAt}
-use Rattle.house.specs.Rules.{asker, noLevel, unknown, checks, foremost, verdict, readAnswer, askAnswer, replied}
+use Rattle.house.specs.House.{fixed}
+use Rattle.house.specs.Checks.{foremost, someApplies}
+use Rattle.house.specs.Rules.{asker, noLevel, unknown, refusals, checks, verdict, readFor, askAnswer, replied}
 use Rattle.house.specs.Opening.{wrongLength, wrongLevel, openVerdict, opening}
-use Rattle.house.proofs.Tests.{is, and-true}
+use Rattle.house.proofs.Tests.{is, clash, and-true}
 use Rattle.house.proofs.Places.{seek-at}
-use Rattle.reach.specs.Answers.{Stranger, RefusalKeeps, NumberStands, OpeningStands, OperationRepeats, StrangerGetsSix, ZeroNamesNobody}
-use Rattle.reach.proofs.Turns.{Turn, refused, begins, reads, writes, certifies, commits, aborts, asks, turn, refused-is}
+use Rattle.house.proofs.Checks.{none-applies, none-given, first-given}
+use Rattle.house.proofs.Effects.{begun-fixed, read-fixed, written-fixed, certified-fixed, committed-fixed, aborted-fixed}
+use Rattle.reach.specs.Answers.{Stranger, RefusalKeeps, FirstGiven, DoneExactly, NumberStands, OpeningStands, FixedStays, OperationRepeats, StrangerGetsSix, ZeroNamesNobody}
+use Rattle.reach.proofs.Turns.{Turn, refused, waits, begins, reads, writes, certifies, commits, aborts, asks, turn, refused-is, done-is}
+use Rattle.reach.proofs.Opened.{reachable-has}
 use Rattle.reach.proofs.Guards.{number}
-use Rattle.reach.proofs.Kept.{reachable-has}
 
 pub refusal-keeps : RefusalKeeps
-refusal-keeps h q n = ap (λ o. o .house) (refused-is h q (λ e. n (number h q ∙ e)))
+refusal-keeps h q n = ap (λ o. o .house) (refused-is h q _ refl (λ e. n (number h q ∙ e)))
+
+pub first-applying : FirstGiven
+unfolding verdict checks refusals
+first-applying h q n z = rw (number h q) (first-given (checks h q) refl n z)
+
+pub done-exactly : DoneExactly
+unfolding verdict checks refusals
+done-exactly h q = (
+  rw (number h q)
+      (elim (is (someApplies (checks h q))) [
+        | inl y ↦ rw y (ne-eqb (foremost (checks h q)) 0 (λ e. clash y (none-applies (checks h q) refl e)))
+        | inr y ↦ rw (y, none-given (checks h q) y)
+      ]),
+  λ e. done-is h q (sym (number h q) ∙ e),
+)
 
 -- the first check of a list that applies has one of its numbers
 abbrev upTo : ℕ → List (ℕ × Bool) → Bool
@@ -40,7 +58,7 @@ foremost-up-to n (x ∷ xs) e =
     elim (is (x .1)) [ inl y ↦ rw y (leb-true (x .0) n (k .0)) | inr y ↦ rw y (foremost-up-to n xs (k .1)) ]
 
 pub number-stands : NumberStands
-unfolding verdict checks
+unfolding verdict checks refusals
 number-stands h q = rw (number h q) (foremost-up-to 12 (checks h q) refl)
 
 pub opening-stands : OpeningStands
@@ -60,16 +78,31 @@ repeated q (Signals i n) = refl
 
 turn-repeats : {h : House} {q : Request} {o : Outcome} → Turn h q o → o .reply .operation ≡ q .operation
 turn-repeats (refused n) = refl
+turn-repeats (waits me A z c) = refl
 turn-repeats (begins me o K) = refl
-turn-repeats {h} {q} (reads me o S K) = repeated q (readAnswer (h .cells) (itemAt (h .items) (q .item)) me (q .item))
-turn-repeats (writes me o S K) = refl
-turn-repeats (certifies me o S K) = refl
-turn-repeats (commits me o S K) = refl
-turn-repeats (aborts me o S) = refl
-turn-repeats {h} {q} (asks me o S) = repeated q (askAnswer (h .cells) me)
+turn-repeats {h} {q} (reads me o A K) = repeated q (readFor h me (q .item))
+turn-repeats (writes me o A K) = refl
+turn-repeats (certifies me o A K) = refl
+turn-repeats (commits me o A K) = refl
+turn-repeats (aborts me o A) = refl
+turn-repeats {h} {q} (asks me o A) = repeated q (askAnswer (h .cells) me)
 
 pub operation-repeats : OperationRepeats
 operation-repeats h q = turn-repeats (turn h q)
+
+turn-fixed : {h : House} {q : Request} {o : Outcome} → Turn h q o → fixed (o .house) ≡ fixed h
+turn-fixed (refused n) = refl
+turn-fixed (waits me A z c) = refl
+turn-fixed {h} {q} (begins me o K) = begun-fixed h (q .level) me
+turn-fixed {h} {q} (reads me o A K) = read-fixed h me (q .item)
+turn-fixed {h} {q} (writes me o A K) = written-fixed h me (q .item) (q .value)
+turn-fixed {h} (certifies me o A K) = certified-fixed h me
+turn-fixed {h} (commits me o A K) = committed-fixed h me
+turn-fixed {h} (aborts me o A) = aborted-fixed h me
+turn-fixed (asks me o A) = refl
+
+pub fixed-stays : FixedStays
+fixed-stays h q = turn-fixed (turn h q)
 
 -- a search that finds the asker finds somebody who is open and has the ticket
 not-found : (h : House) (q : Request) → noLevel q ≡ false → Stranger h q → (who : Found) → asker h q ≡ who → who ≡ Nobody
@@ -80,7 +113,7 @@ not-found h q l s (At p) e =
     absurd (s p (k .within .place) (k .within .level) (k .taken) (k .ticket))
 
 pub stranger-gets-six : StrangerGetsSix
-unfolding verdict checks unknown
+unfolding verdict checks refusals unknown
 stranger-gets-six h q o l u n s =
     let nobody : asker h q ≡ Nobody = not-found h q l s (asker h q) refl in
     number h q ∙ rw (o, l, u, ne-eqb (q .operation) 0 n, nobody)

@@ -2,25 +2,25 @@
 -- Assumes nothing.
 use Prim.Native.Nat.{ℕ, _+_, _<_}
 use native.Mathlib.Omega.{arith}
-use mathlib.Core.Path.{_≡_, refl, sym, ap, _∙_}
+use mathlib.Core.Path.{_≡_, refl, sym, _∙_}
 use mathlib.Core.Logic.{_≢_, _⊎_, inl, inr}
 use mathlib.Core.Bool.{true, false, _&&_, _||_, not, cond}
 use mathlib.Core.List.{List}
 use lib.Dec.{eqb, ltb}
 use borrow.Author.Tests.{eq-eqb, ne-eqb}
 use Rattle.house.specs.declared.House.{House}
-use Rattle.house.specs.declared.Item.{Item}
 use Rattle.house.specs.declared.Mark.{Mark}
 use Rattle.house.specs.declared.Mark.the-variants.{Read, Write, Certify, Signalled}
 use Rattle.house.specs.declared.Standing.the-variants.{Active}
 use Rattle.house.specs.Cell.{has, marked, unmarked, cellAt, holds}
-use Rattle.house.specs.House.{dominates, above, levelOf, itemAt, placeAt, nextAt, isFree}
-use Rattle.house.specs.Rules.{ticketAfter, begun, readBy, writtenBy, certifiedCell, certifiedBy, clearedCell, left, committedItem, abortedItem}
-use Rattle.house.proofs.Tests.{is, same, clash, and-true, and-intro, or-right, not-of}
+use Rattle.house.specs.House.{above, levelOf, itemAt, pendingAt, placeAt, nextAt, isFree}
+use Rattle.house.specs.Rules.{ticketAfter, begun, readBy, writtenBy, signalledCell, convertedCell, certifiedCell, certifiedBy, droppedPending, clearedCell, left, committedItem, committedBy, abortedBy}
+use Rattle.house.proofs.Tests.{is, same, clash, and-true, or-right}
+use Rattle.house.proofs.Levels.{above-intro}
 use Rattle.house.proofs.Cells.{alike, has-marked, has-unmarked, has-withMark}
-use Rattle.house.proofs.Effects.{begun-sizes, begun-place, begun-next, read-sizes, written-sizes, written-item, certified-sizes, certified-place, certified-cell, left-sizes, left-item, left-place, left-cell, begun-place-other, begun-next-other, read-cell-other, written-cell-other, written-item-other, certified-place-other, left-place-other}
+use Rattle.house.proofs.Effects.{begun-sizes, begun-place, begun-next, read-sizes, written-sizes, certified-sizes, certified-place, certified-cell, left-sizes, left-pending, left-place, left-cell, committed-sizes, committed-item, begun-place-other, begun-next-other, read-cell-other, written-cell-other, written-pending-other, certified-place-other, left-place-other, begun-fixed, read-fixed, written-fixed, certified-fixed, committed-fixed, aborted-fixed}
 use Rattle.reach.specs.Kept.{Issued}
-use Rattle.reach.proofs.Law.{held, held-write, held-certify, pair, Law, clear-has, clear-held, clear-lawful, Spared, spared-same, Frame, Own}
+use Rattle.reach.proofs.Law.{held, held-write, held-neither, Law, clear-has, unheld, Spared, spared-same, Frame, Own, clear-own}
 use Rattle.reach.proofs.Turns.{MayBegin, MayRead, MayWrite, MayCertify}
 
 -- an active transaction has no certify lock
@@ -53,11 +53,11 @@ module _ {h : House} {l me : ℕ} (L : Law h) (K : MayBegin h l me) where
   unfolding begun
   begin-frame =
       record {
+        fixed = begun-fixed h l me;
         sizes = begun-sizes (L .sizes) l me;
-        level = λ i a. refl;
         place = λ p b n. begun-place-other h l me p n;
         cell = λ p i b a n. spared-same refl;
-        item = λ p i b a n x. refl;
+        item = λ p i b a n x. (refl, refl);
         row = λ p i b a n x y. refl;
         issued = still-issued;
       }
@@ -65,19 +65,14 @@ module _ {h : House} {l me : ℕ} (L : Law h) (K : MayBegin h l me) where
   pub begin-own : Own h (begun h l me) me
   unfolding Issued
   begin-own =
-      record {
-        cells = λ i a. clear-lawful _ (begin-clear i a) _ _ _;
-        sole = λ p i b a n g. clash g (clear-held _ (begin-clear i a));
-        warns = λ p i b a n c r. clash c (clear-has Certify _ (begin-clear i a));
-        warned = λ p i b a n c r. clash r (clear-has Read _ (begin-clear i a));
-        apart = λ p b n o x k t.
-            let u : placeAt (h .places) p .ticket < nextAt (h .next) l = (rw (k ∙ K .placed) at (L .issued p b x)) (K .ticket) in
-            let w : placeAt (h .places) p .ticket ≡ nextAt (h .next) l = rw (begun-place (L .sizes) l me (K .place)) at t in
-            omega arith;
-        issued = λ o.
-            rw (begun-place (L .sizes) l me (K .place), K .placed, begun-next (L .sizes) l me (K .level))
-            (λ z. elim (after-cases (nextAt (h .next) l)) [ inl g ↦ omega arith | inr g ↦ absurd (z g) ]);
-      }
+      clear-own begin-clear
+      (λ p b n o x k t.
+      let u : placeAt (h .places) p .ticket < nextAt (h .next) l = (rw (k ∙ K .placed) at (L .issued p b x)) (K .ticket) in
+      let w : placeAt (h .places) p .ticket ≡ nextAt (h .next) l = rw (begun-place (L .sizes) l me (K .place)) at t in
+      omega arith)
+      (λ o.
+      rw (begun-place (L .sizes) l me (K .place), K .placed, begun-next (L .sizes) l me (K .level))
+      (λ z. elim (after-cases (nextAt (h .next) l)) [ inl g ↦ omega arith | inr g ↦ absurd (z g) ]))
 
 -- READ
 
@@ -94,11 +89,11 @@ module _ {h : House} {me i : ℕ} (L : Law h) (K : MayRead h me i) where
   unfolding readBy Issued
   read-frame =
       record {
+        fixed = read-fixed h me i;
         sizes = read-sizes (L .sizes) me i;
-        level = λ j a. refl;
         place = λ p b n. refl;
         cell = λ p j b a n. spared-same (read-cell-other h me i p j (K .row) a (λ e. absurd (n e)));
-        item = λ p j b a n x. refl;
+        item = λ p j b a n x. (refl, refl);
         row = λ p j b a n x y. refl;
         issued = λ l t b x. x;
       }
@@ -119,7 +114,7 @@ module _ {h : House} {me i : ℕ} (L : Law h) (K : MayRead h me i) where
               owned = λ g. k .owned (sym (read-held j a) ∙ g);
               room = λ g. k .room (sym (read-held j a) ∙ g);
             };
-        sole = λ p j b a n g. elim (is (held (cellAt (h .cells) p j))) [ inl x ↦ absurd (n (L .sole p me j b m a x (sym (read-held j a) ∙ g))) | inr x ↦ x ];
+        sole = λ p j b a n g. unheld L p me j b m a n (sym (read-held j a) ∙ g);
         warns = λ p j b a n c r. clash (sym (read-mine Certify j a) ∙ c) (uncertified L m (K .active) j a);
         warned = λ p j b a n c r.
             elim (same j i) [
@@ -146,63 +141,42 @@ module _ {h : House} {me i : ℕ} (v : ℕ) (L : Law h) (K : MayWrite h me i) wh
   pub write-holds : held (cellAt (writtenBy h me i v .cells) me i) ≡ true
   write-holds = held-write _ (write-mine Write i (K .row) ∙ rw (eq-eqb i i refl))
 
-  pub write-level : (j : ℕ) → itemAt (writtenBy h me i v .items) j .level ≡ itemAt (h .items) j .level
-  write-level j = elim (same j i) [ inl e ↦ rw (e, written-item (L .sizes) me i v (K .row)) | inr n ↦ rw (written-item-other h me i v j n) ]
-
-  pub write-pair : (j : ℕ) → pair (itemAt (writtenBy h me i v .items) j) ≡ pair (itemAt (h .items) j)
-  write-pair j = elim (same j i) [ inl e ↦ rw (e, written-item (L .sizes) me i v (K .row)) | inr n ↦ rw (written-item-other h me i v j n) ]
-
-  write-places : (p : ℕ) → placeAt (writtenBy h me i v .places) p ≡ placeAt (h .places) p
-  unfolding writtenBy
-  write-places p = refl
-
-  write-issued : (l t : ℕ) → Issued h l t → Issued (writtenBy h me i v) l t
-  unfolding writtenBy Issued
-  write-issued l t x = x
-
   pub write-frame : Frame h (writtenBy h me i v) me
+  unfolding writtenBy Issued
   write-frame =
       record {
+        fixed = written-fixed h me i v;
         sizes = written-sizes (L .sizes) me i v;
-        level = λ j a. write-level j;
-        place = λ p b n. write-places p;
+        place = λ p b n. refl;
         cell = λ p j b a n. spared-same (written-cell-other h me i v p j (K .row) a (λ e. absurd (n e)));
-        item = λ p j b a n x. elim (same j i) [ inl e ↦ clash x (rw e (K .uncontested p b n)) | inr d ↦ written-item-other h me i v j d ];
-        row = λ p j b a n x y. write-pair j;
-        issued = λ l t b x. write-issued l t x;
+        item = λ p j b a n x. (refl, elim (same j i) [ inl e ↦ clash x (rw e (K .uncontested p b n)) | inr d ↦ written-pending-other h me i v j d ]);
+        row = λ p j b a n x y. refl;
+        issued = λ l t b x. x;
       }
 
   pub write-own : Own h (writtenBy h me i v) me
+  unfolding writtenBy Issued
   write-own =
       let m = K .place in
       record {
         cells = λ j a.
             let k = L .cells me j m a in
-            rw (write-places me)
-            (record {
+            record {
               idle = λ f. clash f (rw (K .active));
               writing = λ w. rw (K .active);
               certifying = λ w. k .certifying (sym (write-mine Certify j a) ∙ w);
-              below = λ r. rw (write-level j) (k .below (sym (write-mine Read j a) ∙ r));
+              below = λ r. k .below (sym (write-mine Read j a) ∙ r);
               heard = λ x. write-mine Read j a ∙ k .heard (sym (write-mine Signalled j a) ∙ x);
-              owned = λ g. write-level j ∙ elim (same j i) [ inl e ↦ rw e (K .mine) | inr n ↦ k .owned (sym (write-held j a n) ∙ g) ];
-              room = λ g.
-                  elim (same j i) [
-                    | inl e ↦ rw (e, written-item (L .sizes) me i v (K .row)) (K .room)
-                    | inr n ↦ rw (written-item-other h me i v j n) (k .room (sym (write-held j a n) ∙ g))
-                  ];
-            });
-        sole = λ p j b a n g.
-            elim (same j i) [
-              | inl e ↦ rw e (K .uncontested p b n)
-              | inr d ↦ elim (is (held (cellAt (h .cells) p j))) [ inl x ↦ absurd (n (L .sole p me j b m a x (sym (write-held j a d) ∙ g))) | inr x ↦ x ]
-            ];
+              owned = λ g. elim (same j i) [ inl e ↦ rw e (K .mine) | inr n ↦ k .owned (sym (write-held j a n) ∙ g) ];
+              room = λ g. elim (same j i) [ inl e ↦ rw e (K .room) | inr n ↦ k .room (sym (write-held j a n) ∙ g) ];
+            };
+        sole = λ p j b a n g. elim (same j i) [ inl e ↦ rw e (K .uncontested p b n) | inr d ↦ unheld L p me j b m a n (sym (write-held j a d) ∙ g) ];
         warns = λ p j b a n c r. clash (sym (write-mine Certify j a) ∙ c) (uncertified L m (K .active) j a);
         warned = λ p j b a n c r.
             let w = L .warned p me j b m a (λ e. n (sym e)) c (sym (write-mine Read j a) ∙ r) in
             record { higher = w .higher; signal = write-mine Signalled j a ∙ w .signal };
-        apart = λ p b n o x l t. n (L .apart p me b m x (rw (write-places me) at o) l (t ∙ ap (λ x. x .ticket) (write-places me)));
-        issued = λ o. rw (write-places me) (write-issued _ _ (L .issued me m (rw (write-places me) at o)));
+        apart = λ p b n o x l t. n (L .apart p me b m x o l t);
+        issued = λ o. L .issued me m o;
       }
 
 -- CERTIFY
@@ -214,15 +188,15 @@ module _ (cells : List ℕ) (me p i c : ℕ) where
   cell-untouched e = rw e
 
   cell-mine : has Write (cellAt cells me i) ≡ true → p ≡ me → certifiedCell cells me p i c ≡ marked Certify (unmarked Write c)
-  unfolding certifiedCell holds
+  unfolding certifiedCell convertedCell holds
   cell-mine e q = rw (e, eq-eqb p me q)
 
   cell-signalled : has Write (cellAt cells me i) ≡ true → p ≢ me → above (levelOf p) (levelOf me) ≡ true → has Read c ≡ true → certifiedCell cells me p i c ≡ marked Signalled c
-  unfolding certifiedCell holds
+  unfolding certifiedCell convertedCell signalledCell holds
   cell-signalled e q a r = rw (e, ne-eqb p me q, a, r)
 
   cell-passed : has Write (cellAt cells me i) ≡ true → p ≢ me → (above (levelOf p) (levelOf me) && has Read c) ≡ false → certifiedCell cells me p i c ≡ c
-  unfolding certifiedCell holds
+  unfolding certifiedCell convertedCell signalledCell holds
   cell-passed e q a = rw (e, ne-eqb p me q, a)
 
 spared-signal : (c : ℕ) → has Read c ≡ true → Spared c (marked Signalled c)
@@ -235,11 +209,6 @@ spared-signal c r =
       signal = λ s. has-marked Signalled Signalled c;
       heard = λ s. inr r;
     }
-
--- dominates, and not of the same level
-above-intro : (a b : ℕ) → dominates a b ≡ true → a ≢ b → above a b ≡ true
-unfolding above
-above-intro a b d n = and-intro _ _ d (not-of _ (ne-eqb a b n))
 
 module _ {h : House} {me : ℕ} (L : Law h) (K : MayCertify h me) where
   others : (p i : ℕ) → i < 64 → p ≢ me → Spared (cellAt (h .cells) p i) (certifiedCell (h .cells) me p i (cellAt (h .cells) p i))
@@ -257,11 +226,11 @@ module _ {h : House} {me : ℕ} (L : Law h) (K : MayCertify h me) where
   unfolding certifiedBy Issued
   certify-frame =
       record {
+        fixed = certified-fixed h me;
         sizes = certified-sizes (L .sizes) me;
-        level = λ i a. refl;
         place = λ p b n. certified-place-other h me p n;
         cell = λ p i b a n. rw (certified-cell (L .sizes) me p i b a) (others p i a n);
-        item = λ p i b a n x. refl;
+        item = λ p i b a n x. (refl, refl);
         row = λ p i b a n x y. refl;
         issued = λ l t b x. x;
       }
@@ -319,7 +288,7 @@ module _ {h : House} {me : ℕ} (L : Law h) (K : MayCertify h me) where
               owned = λ g. k .owned (sym (certify-held i a) ∙ g);
               room = λ g. k .room (sym (certify-held i a) ∙ g);
             });
-        sole = λ p i b a n g. elim (is (held (cellAt (h .cells) p i))) [ inl x ↦ absurd (n (L .sole p me i b m a x (sym (certify-held i a) ∙ g))) | inr x ↦ x ];
+        sole = λ p i b a n g. unheld L p me i b m a n (sym (certify-held i a) ∙ g);
         warns = λ p i b a n c r.
             let w = sym (certify-certifies i a) ∙ c in
             let up = reader-above p i b a n w r in
@@ -334,89 +303,67 @@ module _ {h : House} {me : ℕ} (L : Law h) (K : MayCertify h me) where
         issued = λ o. rw (certified-place (L .sizes) me m) (certify-frame .issued _ _ (omega arith) (L .issued me m (rw (K .active))));
       }
 
--- COMMIT AND ABORT: the place is left. f says what becomes of the items
-
-pub freed : {h : House} {me : ℕ} → Law h → me < 32 → (f : ℕ → Item → Item) → isFree (placeAt (left f h me .places) me .standing) ≡ true
-freed {h} {me} L m f = rw (left-place (L .sizes) f me m)
-
-module _ {h : House} {me : ℕ} (L : Law h) (m : me < 32) (f : ℕ → Item → Item) where
-  left-other : (p i : ℕ) → p < 32 → i < 64 → p ≢ me → cellAt (left f h me .cells) p i ≡ cellAt (h .cells) p i
-  unfolding clearedCell
-  left-other p i b a n = left-cell (L .sizes) f me p i b a ∙ rw (ne-eqb p me n)
-
-  pub left-mine : (i : ℕ) → i < 64 → cellAt (left f h me .cells) me i ≡ 0
-  unfolding clearedCell
-  left-mine i a = left-cell (L .sizes) f me me i m a ∙ rw (eq-eqb me me refl)
-
-  left-issued : (l t : ℕ) → Issued h l t → Issued (left f h me) l t
-  unfolding left Issued
-  left-issued l t x = x
-
-  -- f keeps levels, items that I have not written, and the pair that another has read and need not give up
-  leave-frame : ((i : ℕ) (x : Item) → f i x .level ≡ x .level)
-      → ((i : ℕ) (x : Item) → held (cellAt (h .cells) me i) ≡ false → f i x ≡ x)
-      → ((p i : ℕ) (x : Item) → p < 32 → i < 64 → p ≢ me → has Read (cellAt (h .cells) p i) ≡ true → has Signalled (cellAt (h .cells) p i) ≡ false → pair (f i x) ≡ pair x)
-      → Frame h (left f h me) me
-  leave-frame level-kept unheld-kept pair-kept =
-      record {
-        sizes = left-sizes (L .sizes) f me;
-        level = λ i a. rw (left-item (L .sizes) f me i a) (level-kept i (itemAt (h .items) i));
-        place = λ p b n. left-place-other h f me p n;
-        cell = λ p i b a n. spared-same (left-other p i b a n);
-        item = λ p i b a n x.
-            left-item (L .sizes) f me i a
-            ∙ unheld-kept i (itemAt (h .items) i) (elim (is (held (cellAt (h .cells) me i))) [ inl y ↦ absurd (n (L .sole p me i b m a x y)) | inr y ↦ y ]);
-        row = λ p i b a n x y. rw (left-item (L .sizes) f me i a) (pair-kept p i (itemAt (h .items) i) b a n x (rw (left-other p i b a n) at y));
-        issued = λ l t b x. left-issued l t x;
-      }
-
-  pub leave-own : Own h (left f h me) me
-  leave-own =
-      record {
-        cells = λ i a. clear-lawful _ (left-mine i a) _ _ _;
-        sole = λ p i b a n g. clash g (clear-held _ (left-mine i a));
-        warns = λ p i b a n c r. clash c (clear-has Certify _ (left-mine i a));
-        warned = λ p i b a n c r. clash r (clear-has Read _ (left-mine i a));
-        apart = λ p b n o x l t. clash (freed L m f) o;
-        issued = λ o. clash (freed L m f) o;
-      }
-
--- what becomes of an item x at a commit and at an abort
-module _ (cells : List ℕ) (me i : ℕ) (x : Item) where
-  committed-level : committedItem cells me i x .level ≡ x .level
-  unfolding committedItem
-  committed-level = elim (is (holds cells Certify me i)) [ inl e ↦ rw e | inr e ↦ rw e ]
-
-  pub committed-plain : has Certify (cellAt cells me i) ≡ false → committedItem cells me i x ≡ x
-  unfolding committedItem holds
-  committed-plain e = rw e
-
-  pub committed-unheld : held (cellAt cells me i) ≡ false → committedItem cells me i x ≡ x
-  committed-unheld e = committed-plain (elim (is (has Certify (cellAt cells me i))) [ inl c ↦ clash (held-certify _ c) e | inr c ↦ c ])
-
-  aborted-level : abortedItem cells me i x .level ≡ x .level
-  unfolding abortedItem
-  aborted-level = elim (is (holds cells Write me i || holds cells Certify me i)) [ inl e ↦ rw e | inr e ↦ rw e ]
-
-  pub aborted-pair : pair (abortedItem cells me i x) ≡ pair x
-  unfolding abortedItem
-  aborted-pair = elim (is (holds cells Write me i || holds cells Certify me i)) [ inl e ↦ rw e | inr e ↦ rw e ]
-
-  pub aborted-unheld : held (cellAt cells me i) ≡ false → abortedItem cells me i x ≡ x
-  unfolding abortedItem holds held
-  aborted-unheld e = rw e
+-- COMMIT AND ABORT: the place is left
 
 module _ {h : House} {me : ℕ} (L : Law h) (m : me < 32) where
-  -- what another has read and I have certified is signalled, so the pair of a read that is not signalled stays
-  committed-pair : (p i : ℕ) (x : Item) → p < 32 → i < 64 → p ≢ me → has Read (cellAt (h .cells) p i) ≡ true → has Signalled (cellAt (h .cells) p i) ≡ false → pair (committedItem (h .cells) me i x) ≡ pair x
-  committed-pair p i x b a n r s =
-      elim (is (has Certify (cellAt (h .cells) me i))) [
-        | inl c ↦ clash (L .warned me p i m b a n c r .signal) s
-        | inr c ↦ ap pair (committed-plain (h .cells) me i x c)
-      ]
+  pub freed : isFree (placeAt (left h me .places) me .standing) ≡ true
+  freed = rw (left-place (L .sizes) me m)
 
-  pub commit-frame : Frame h (left (committedItem (h .cells) me) h me) me
-  commit-frame = leave-frame L m (committedItem (h .cells) me) (committed-level (h .cells) me) (committed-unheld (h .cells) me) committed-pair
+  left-other : (p i : ℕ) → p < 32 → i < 64 → p ≢ me → cellAt (left h me .cells) p i ≡ cellAt (h .cells) p i
+  unfolding clearedCell
+  left-other p i b a n = left-cell (L .sizes) me p i b a ∙ rw (ne-eqb p me n)
 
-  pub abort-frame : Frame h (left (abortedItem (h .cells) me) h me) me
-  abort-frame = leave-frame L m (abortedItem (h .cells) me) (aborted-level (h .cells) me) (aborted-unheld (h .cells) me) (λ p i x b a n r s. aborted-pair (h .cells) me i x)
+  pub left-mine : (i : ℕ) → i < 64 → cellAt (left h me .cells) me i ≡ 0
+  unfolding clearedCell
+  left-mine i a = left-cell (L .sizes) me me i m a ∙ rw (eq-eqb me me refl)
+
+  -- what I have written is pending no more; what I have not stays
+  pub left-dropped : (i : ℕ) → i < 64 → held (cellAt (h .cells) me i) ≡ true → pendingAt (left h me .pending) i ≡ 0
+  unfolding droppedPending holds held
+  left-dropped i a y = left-pending (L .sizes) me i a ∙ rw y
+
+  pub left-stays : (i : ℕ) → i < 64 → held (cellAt (h .cells) me i) ≡ false → pendingAt (left h me .pending) i ≡ pendingAt (h .pending) i
+  unfolding droppedPending holds held
+  left-stays i a y = left-pending (L .sizes) me i a ∙ rw y
+
+  pub abort-frame : Frame h (abortedBy h me) me
+  unfolding left Issued
+  abort-frame =
+      record {
+        fixed = aborted-fixed h me;
+        sizes = left-sizes (L .sizes) me;
+        place = λ p b n. left-place-other h me p n;
+        cell = λ p i b a n. spared-same (left-other p i b a n);
+        item = λ p i b a n x. (refl, left-stays i a (unheld L me p i m b a (λ e. n (sym e)) x));
+        row = λ p i b a n x y. refl;
+        issued = λ l t b x. x;
+      }
+
+  -- a commit is an abort, but for the rows that I hold certify on
+  pub committed-row : (i : ℕ) → i < 64 → has Certify (cellAt (h .cells) me i) ≡ false → itemAt (committedBy h me .items) i ≡ itemAt (h .items) i
+  unfolding committedItem holds
+  committed-row i a c = committed-item (L .sizes) me i a ∙ rw c
+
+  -- what another has read and I have certified is signalled, so the row of a read that is not signalled stays
+  read-row : (p i : ℕ) → p < 32 → i < 64 → p ≢ me → has Read (cellAt (h .cells) p i) ≡ true → has Signalled (cellAt (h .cells) p i) ≡ false → itemAt (committedBy h me .items) i ≡ itemAt (h .items) i
+  read-row p i b a n r s = elim (is (has Certify (cellAt (h .cells) me i))) [ inl c ↦ clash (L .warned me p i m b a n c r .signal) s | inr c ↦ committed-row i a c ]
+
+  pub commit-frame : Frame h (committedBy h me) me
+  unfolding Issued
+  commit-frame =
+      let F = abort-frame in
+      record {
+        fixed = committed-fixed h me;
+        sizes = committed-sizes (L .sizes) me;
+        place = F .place;
+        cell = F .cell;
+        item = λ p i b a n x. (committed-row i a (held-neither _ (unheld L me p i m b a (λ e. n (sym e)) x) .1), F .item p i b a n x .1);
+        row = λ p i b a n x y. read-row p i b a n x (rw (left-other p i b a n) at y);
+        issued = F .issued;
+      }
+
+  pub abort-own : Own h (abortedBy h me) me
+  abort-own = clear-own left-mine (λ p b n o x l t. clash freed o) (λ o. clash freed o)
+
+  pub commit-own : Own h (committedBy h me) me
+  commit-own = clear-own left-mine (λ p b n o x l t. clash freed o) (λ o. clash freed o)

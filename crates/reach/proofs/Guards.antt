@@ -5,22 +5,20 @@ use native.Mathlib.Omega.{arith}
 use mathlib.Core.Path.{_≡_, refl, sym, _∙_}
 use mathlib.Core.Logic.{inl, inr}
 use mathlib.Core.Bool.{_&&_, _||_}
-use mathlib.Core.List.{List}
 use lib.Dec.{leb}
 use borrow.Author.Tests.{leb-false, lt-leb, lt-ltb}
 use Rattle.house.specs.declared.House.{House}
-use Rattle.house.specs.declared.Item.{Item}
 use Rattle.house.specs.declared.Mark.the-variants.{Write}
 use Rattle.house.specs.declared.Outcome.{Outcome}
 use Rattle.house.specs.declared.Request.{Request}
 use Rattle.house.specs.Cell.{holds}
-use Rattle.house.specs.House.{itemAt}
-use Rattle.house.specs.Rules.{usesItem, noItem, verdict, grown, readAnswer, askAnswer, replied, stepped}
-use Rattle.house.proofs.Tests.{is, same}
+use Rattle.house.specs.Rules.{usesItem, noItem, delayed, verdict, grown, readAnswer, readFor, askAnswer, replied, stepped}
+use Rattle.house.proofs.Tests.{is, same, clash}
+use Rattle.house.proofs.Checks.{passes}
 use Rattle.reach.specs.Kept.{Kept}
 use Rattle.reach.specs.Guards.{Unguarded, GuardsRest}
-use Rattle.reach.proofs.Turns.{Turn, refused, begins, reads, writes, certifies, commits, aborts, asks, turn, refused-is}
-use Rattle.reach.proofs.Kept.{reachable-has}
+use Rattle.reach.proofs.Turns.{Turn, refused, waits, begins, reads, writes, certifies, commits, aborts, asks, turn, first-refused, refused-is}
+use Rattle.reach.proofs.Opened.{reachable-has}
 
 grown-room : (v : ℕ) → v < 4294967295 → grown v ≡ v + 1
 unfolding grown
@@ -35,24 +33,25 @@ unfolding noItem
 item-counted h b q = rw (within (h .count) (q .item) b)
 
 -- a read is done whichever pair it gives
-pub read-number : (q : Request) (cells : List ℕ) (x : Item) (me i : ℕ) → replied q (readAnswer cells x me i) .number ≡ 0
+pub read-number : (h : House) (q : Request) (me i : ℕ) → replied q (readFor h me i) .number ≡ 0
 unfolding readAnswer
-read-number q cells x me i = elim (is (holds cells Write me i)) [ inl w ↦ rw w | inr w ↦ rw w ]
+read-number h q me i = elim (is (holds (h .cells) Write me i)) [ inl w ↦ rw w | inr w ↦ rw w ]
 
 done-number : {h : House} {q : Request} {o : Outcome} → verdict h q ≡ 0 → Turn h q o → o .reply .number ≡ 0
-unfolding askAnswer
-done-number v (refused n) = absurd (n v)
+unfolding delayed askAnswer
+done-number {h} {q} v (refused n) = absurd (n (sym (first-refused h q n) ∙ v))
+done-number {h} {q} v (waits me A z c) = clash c (rw (A .at) at (passes h q v .1))
 done-number v (begins me o K) = refl
-done-number {h} {q} v (reads me o S K) = read-number q (h .cells) (itemAt (h .items) (q .item)) me (q .item)
-done-number v (writes me o S K) = refl
-done-number v (certifies me o S K) = refl
-done-number v (commits me o S K) = refl
-done-number v (aborts me o S) = refl
-done-number v (asks me o S) = refl
+done-number {h} {q} v (reads me o A K) = read-number h q me (q .item)
+done-number v (writes me o A K) = refl
+done-number v (certifies me o A K) = refl
+done-number v (commits me o A K) = refl
+done-number v (aborts me o A) = refl
+done-number v (asks me o A) = refl
 
 -- in every house, reachable or not
 pub number : (h : House) (q : Request) → stepped h q .reply .number ≡ verdict h q
-number h q = elim (same (verdict h q) 0) [ inl v ↦ done-number v (turn h q) ∙ sym v | inr n ↦ rw (refused-is h q n) ]
+number h q = elim (same (verdict h q) 0) [ inl v ↦ done-number v (turn h q) ∙ sym v | inr n ↦ rw (refused-is h q _ refl n) ]
 
 pub unguarded : {h : House} → Kept h → Unguarded h
 unguarded {h} K = record { grows = λ p i b a w. grown-room _ (K .room p i b a w); counted = item-counted h (K .count); numbered = number h }

@@ -1,53 +1,47 @@
--- Every reachable house is `Kept`: the law, and beside it what the operations keep tidy (counts, blank rows, pending values,
--- tickets).
+-- Every request keeps a house `Kept`: the law, and beside it what the operations keep tidy (blank rows, pending values, tickets).
 -- Assumes nothing.
 use Prim.Native.Nat.{ℕ, _≤_, _<_}
 use native.Mathlib.Omega.{arith}
-use mathlib.Core.Path.{_≡_, refl, sym, ap, _∙_}
+use mathlib.Core.Path.{_≡_, refl, sym, _∙_}
 use mathlib.Core.Logic.{_≢_, _⊎_, inl, inr}
 use mathlib.Core.Bool.{true, false}
 use mathlib.Core.List.{List, [], _∷_}
-use lib.ListN.{length, getD, List·getD-eq-default}
-use lib.Dec.{eqb, ltb}
-use borrow.Author.Tests.{eqb-true, ltb-true, ltb-false}
+use lib.Dec.{ltb}
+use borrow.Author.Tests.{ltb-true}
 use Rattle.house.specs.declared.House.{House}
-use Rattle.house.specs.declared.Item.{Item}
 use Rattle.house.specs.declared.Mark.the-variants.{Write, Certify}
 use Rattle.house.specs.declared.Outcome.{Outcome}
 use Rattle.house.specs.declared.Request.{Request}
-use Rattle.house.specs.Cell.{has, cellAt, holds}
-use Rattle.house.specs.House.{blank, itemAt, placeAt, nextAt, isFree}
-use Rattle.house.specs.Rules.{ticketAfter, begun, readBy, writtenBy, certifiedBy, left, committedItem, abortedItem}
-use Rattle.house.specs.Opening.{wrongLength, highAt, wrongLevel, openVerdict, opened, opening}
-use Rattle.house.proofs.Tests.{is, same, clash, or-false}
-use Rattle.house.proofs.Searches.{any-none}
-use Rattle.house.proofs.Effects.{begun-place, begun-next, certified-place, certified-cell, left-item, left-place, begun-next-other, read-cell-other, written-cell-other, written-item-other}
-use Rattle.house.proofs.Openings.{opened-sizes, opened-item, opened-place, opened-cell, opened-next}
+use Rattle.house.specs.Cell.{cellAt, holds}
+use Rattle.house.specs.House.{blank, itemAt, pendingAt, placeAt, nextAt, isFree}
+use Rattle.house.specs.Rules.{ticketAfter, begun, readBy, writtenBy, certifiedBy, left, committedBy, abortedBy}
 use Rattle.house.specs.Run.{finally}
-use Rattle.reach.specs.Kept.{Open, wrote, Kept, OpeningHas, StepKeeps, ReachableHas}
-use Rattle.reach.proofs.Law.{held, Law, Frame, Own, clear-has, clear-held, clear-law, held-kept, lawful}
-use Rattle.reach.proofs.Turns.{MayBegin, MayRead, MayWrite, MayCertify, MayCommit, Turn, refused, begins, reads, writes, certifies, commits, aborts, asks, turn}
-use Rattle.reach.proofs.Changes.{begin-clear, begin-frame, begin-own, read-held, read-frame, read-own, write-held, write-holds, write-frame, write-own, cell-untouched, certify-held, certify-frame, certify-own, freed, left-mine, leave-own, committed-unheld, aborted-unheld, commit-frame, abort-frame}
+use Rattle.house.proofs.Tests.{is, same, clash}
+use Rattle.house.proofs.Effects.{begun-place, begun-next, certified-place, certified-cell, left-place, begun-next-other, read-cell-other, written-cell-other, written-pending-other}
+use Rattle.reach.specs.Kept.{Open, wrote, Kept, StepKeeps}
+use Rattle.reach.proofs.Law.{held, Law, Frame, Own, clear-has, clear-held, same-count, same-level, held-kept, lawful}
+use Rattle.reach.proofs.Turns.{MayBegin, MayRead, MayWrite, MayCertify, Turn, refused, waits, begins, reads, writes, certifies, commits, aborts, asks, turn}
+use Rattle.reach.proofs.Changes.{begin-clear, begin-frame, begin-own, read-held, read-frame, read-own, write-held, write-holds, write-frame, write-own, cell-untouched, certify-held, certify-frame, certify-own, freed, left-mine, left-dropped, left-stays, committed-row, abort-frame, commit-frame, abort-own, commit-own}
 
 -- what `Kept` has beside the law
-record Tidy (h : House) : Type 0 where
-  count : h .count ≤ 64
-  levels : (i : ℕ) → i < 64 → itemAt (h .items) i .level < 4
-  rows : (i : ℕ) → i < 64 → h .count ≤ i → itemAt (h .items) i ≡ blank
-  pending : (i : ℕ) → i < 64 → ((p : ℕ) → p < 32 → held (cellAt (h .cells) p i) ≡ false) → itemAt (h .items) i .pending ≡ 0
-  ticketless : (p : ℕ) → p < 32 → isFree (placeAt (h .places) p .standing) ≡ true → placeAt (h .places) p .ticket ≡ 0
-  named : (p : ℕ) → p < 32 → Open h p → placeAt (h .places) p .ticket ≢ 0
-  next : (l : ℕ) → l < 4 → nextAt (h .next) l ≤ 4294967295
-  inside : (p i : ℕ) → p < 32 → i < 64 → h .count ≤ i → cellAt (h .cells) p i ≡ 0
+pub record Tidy (h : House) : Type 0 where
+  pub count : h .count ≤ 64
+  pub levels : (i : ℕ) → i < 64 → itemAt (h .items) i .level < 4
+  pub rows : (i : ℕ) → i < 64 → h .count ≤ i → itemAt (h .items) i ≡ blank
+  pub pending : (i : ℕ) → i < 64 → ((p : ℕ) → p < 32 → held (cellAt (h .cells) p i) ≡ false) → pendingAt (h .pending) i ≡ 0
+  pub ticketless : (p : ℕ) → p < 32 → isFree (placeAt (h .places) p .standing) ≡ true → placeAt (h .places) p .ticket ≡ 0
+  pub named : (p : ℕ) → p < 32 → Open h p → placeAt (h .places) p .ticket ≢ 0
+  pub next : (l : ℕ) → l < 4 → nextAt (h .next) l ≤ 4294967295
+  pub inside : (p i : ℕ) → p < 32 → i < 64 → h .count ≤ i → cellAt (h .cells) p i ≡ 0
 
-kept : {h : House} → Law h → Tidy h → Kept h
+pub kept : {h : House} → Law h → Tidy h → Kept h
 unfolding holds wrote held
 kept L T =
     record {
       sizes = L .sizes;
       count = T .count;
       levels = T .levels;
-      rows = T .rows;
+      rows = λ i a c. (T .rows i a c, T .pending i a (λ p b. clear-held _ (T .inside p i b a c)));
       pending = T .pending;
       ticketless = T .ticketless;
       named = T .named;
@@ -94,7 +88,7 @@ kept-tidy K =
     record {
       count = K .count;
       levels = K .levels;
-      rows = K .rows;
+      rows = λ i a c. K .rows i a c .0;
       pending = K .pending;
       ticketless = K .ticketless;
       named = K .named;
@@ -105,10 +99,9 @@ kept-tidy K =
 -- A change by `me`, as far as tidiness goes
 
 record Neat (h h′ : House) (me : ℕ) : Type 0 where
-  count : h′ .count ≡ h .count
   rows : (i : ℕ) → i < 64 → h .count ≤ i → itemAt (h′ .items) i ≡ itemAt (h .items) i
   -- what I do not hold afterwards has no pending value, or I did not hold it before either and its pending value stays
-  pending : (i : ℕ) → i < 64 → held (cellAt (h′ .cells) me i) ≡ false → (itemAt (h′ .items) i .pending ≡ 0) ⊎ ((held (cellAt (h .cells) me i) ≡ false) × (itemAt (h′ .items) i .pending ≡ itemAt (h .items) i .pending))
+  pending : (i : ℕ) → i < 64 → held (cellAt (h′ .cells) me i) ≡ false → (pendingAt (h′ .pending) i ≡ 0) ⊎ ((held (cellAt (h .cells) me i) ≡ false) × (pendingAt (h′ .pending) i ≡ pendingAt (h .pending) i))
   ticketless : isFree (placeAt (h′ .places) me .standing) ≡ true → placeAt (h′ .places) me .ticket ≡ 0
   named : Open h′ me → placeAt (h′ .places) me .ticket ≢ 0
   next : (l : ℕ) → l < 4 → nextAt (h′ .next) l ≤ 4294967295
@@ -117,9 +110,9 @@ record Neat (h h′ : House) (me : ℕ) : Type 0 where
 tidied : {h h′ : House} {me : ℕ} → Law h → Frame h h′ me → me < 32 → Tidy h → Neat h h′ me → Tidy h′
 tidied {h} {h′} {me} L F m T N =
     record {
-      count = rw (N .count) (T .count);
-      levels = λ i a. rw (F .level i a) (T .levels i a);
-      rows = λ i a c. let c′ : h .count ≤ i = rw (N .count) at c in N .rows i a c′ ∙ T .rows i a c′;
+      count = rw (same-count F) (T .count);
+      levels = λ i a. rw (same-level F i) (T .levels i a);
+      rows = λ i a c. let c′ : h .count ≤ i = rw (same-count F) at c in N .rows i a c′ ∙ T .rows i a c′;
       pending = λ i a none.
           elim (N .pending i a (none me m)) [
             | inl z ↦ z
@@ -129,24 +122,9 @@ tidied {h} {h′} {me} L F m T N =
       named = λ p b o. elim (same p me) [ inl e ↦ rw e (N .named (rw e at o)) | inr n ↦ rw (F .place p b n) (T .named p b (rw (F .place p b n) at o)) ];
       next = N .next;
       inside = λ p i b a c.
-          let c′ : h .count ≤ i = rw (N .count) at c in
+          let c′ : h .count ≤ i = rw (same-count F) at c in
           elim (same p me) [ inl e ↦ rw e (N .inside i a c′) | inr n ↦ F .cell p i b a n .clear (T .inside p i b a c′) ];
     }
-
--- what a commit and an abort leave of the pending value
-
-only-certify : (c : ℕ) → held c ≡ true → has Write c ≡ false → has Certify c ≡ true
-unfolding held
-only-certify c y w = rw w at y
-
-module _ (cells : List ℕ) (me i : ℕ) (x : Item) where
-  committed-pending : has Certify (cellAt cells me i) ≡ true → committedItem cells me i x .pending ≡ 0
-  unfolding committedItem holds
-  committed-pending y = rw y
-
-  aborted-pending : held (cellAt cells me i) ≡ true → abortedItem cells me i x .pending ≡ 0
-  unfolding abortedItem holds held
-  aborted-pending y = rw y
 
 -- Begin
 module _ {h : House} {l me : ℕ} (L : Law h) (T : Tidy h) (K : MayBegin h l me) where
@@ -159,7 +137,6 @@ module _ {h : House} {l me : ℕ} (L : Law h) (T : Tidy h) (K : MayBegin h l me)
   begin-neat =
       let here = begun-place (L .sizes) l me (K .place) in
       record {
-        count = refl;
         rows = λ i a c. refl;
         pending = λ i a g. inr (g, refl);
         ticketless = λ f. clash f (rw here);
@@ -174,7 +151,6 @@ module _ {h : House} {me i : ℕ} (L : Law h) (T : Tidy h) (K : MayRead h me i) 
   unfolding readBy
   read-neat =
       record {
-        count = refl;
         rows = λ j a c. refl;
         pending = λ j a g. inr (sym (read-held L K j a) ∙ g, refl);
         ticketless = T .ticketless me (K .place);
@@ -189,12 +165,11 @@ module _ {h : House} {me i : ℕ} (v : ℕ) (L : Law h) (T : Tidy h) (K : MayWri
   unfolding writtenBy
   write-neat =
       record {
-        count = refl;
-        rows = λ j a c. written-item-other h me i v j (λ d. let x = K .item in omega arith);
+        rows = λ j a c. refl;
         pending = λ j a g.
             elim (same j i) [
               | inl e ↦ clash (write-holds v L K) (rw e at g)
-              | inr n ↦ inr (sym (write-held v L K j a n) ∙ g, ap (λ x. x .pending) (written-item-other h me i v j n))
+              | inr n ↦ inr (sym (write-held v L K j a n) ∙ g, written-pending-other h me i v j n)
             ];
         ticketless = T .ticketless me (K .place);
         named = T .named me (K .place);
@@ -210,7 +185,6 @@ module _ {h : House} {me : ℕ} (L : Law h) (T : Tidy h) (K : MayCertify h me) w
       let m = K .place in
       let here = certified-place (L .sizes) me m in
       record {
-        count = refl;
         rows = λ i a c. refl;
         pending = λ i a g. inr (sym (certify-held L K i a) ∙ g, refl);
         ticketless = λ f. clash f (rw here);
@@ -221,40 +195,31 @@ module _ {h : House} {me : ℕ} (L : Law h) (T : Tidy h) (K : MayCertify h me) w
             certified-cell (L .sizes) me me i m a ∙ cell-untouched (h .cells) me me i _ (clear-has Write _ z) ∙ z;
       }
 
--- Commit and abort: f gives up what I hold, and leaves the rest
-module _ {h : House} {me : ℕ} (L : Law h) (T : Tidy h) (m : me < 32) (f : ℕ → Item → Item)
-    (unheld-kept : (i : ℕ) (x : Item) → held (cellAt (h .cells) me i) ≡ false → f i x ≡ x)
-    (given-up : (i : ℕ) (x : Item) → i < 64 → held (cellAt (h .cells) me i) ≡ true → f i x .pending ≡ 0) where
-  leave-neat : Neat h (left f h me) me
+-- Commit and abort
+module _ {h : House} {me : ℕ} (L : Law h) (T : Tidy h) (m : me < 32) where
+  abort-neat : Neat h (abortedBy h me) me
   unfolding left
-  leave-neat =
-      let here = left-place (L .sizes) f me m in
+  abort-neat =
       record {
-        count = refl;
-        rows = λ i a c. left-item (L .sizes) f me i a ∙ unheld-kept i _ (clear-held _ (T .inside me i m a c));
-        pending = λ i a g.
-            elim (is (held (cellAt (h .cells) me i))) [
-              | inl y ↦ inl (rw (left-item (L .sizes) f me i a) (given-up i _ a y))
-              | inr y ↦ inr (y, ap (λ x. x .pending) (left-item (L .sizes) f me i a ∙ unheld-kept i _ y))
-            ];
-        ticketless = λ e. rw here;
-        named = λ o. clash (freed L m f) o;
+        rows = λ i a c. refl;
+        pending = λ i a g. elim (is (held (cellAt (h .cells) me i))) [ inl y ↦ inl (left-dropped L m i a y) | inr y ↦ inr (y, left-stays L m i a y) ];
+        ticketless = λ e. rw (left-place (L .sizes) me m);
+        named = λ o. clash (freed L m) o;
         next = T .next;
-        inside = λ i a c. left-mine L m f i a;
+        inside = λ i a c. left-mine L m i a;
       }
 
-module _ {h : House} {me : ℕ} (L : Law h) (T : Tidy h) where
-  commit-neat : MayCommit h me → Neat h (left (committedItem (h .cells) me) h me) me
-  commit-neat K = leave-neat L T (K .place) (committedItem (h .cells) me) (committed-unheld (h .cells) me) (gone K)
-    where
-      certified : MayCommit h me → (i : ℕ) → i < 64 → held (cellAt (h .cells) me i) ≡ true → has Certify (cellAt (h .cells) me i) ≡ true
-      certified K i a y = elim (is (has Write (cellAt (h .cells) me i))) [ inl w ↦ clash (L .cells me i (K .place) a .writing w) (rw (K .certified)) | inr w ↦ only-certify _ y w ]
-
-      gone : MayCommit h me → (i : ℕ) (x : Item) → i < 64 → held (cellAt (h .cells) me i) ≡ true → committedItem (h .cells) me i x .pending ≡ 0
-      gone K i x a y = committed-pending (h .cells) me i x (certified K i a y)
-
-  abort-neat : me < 32 → Neat h (left (abortedItem (h .cells) me) h me) me
-  abort-neat m = leave-neat L T m (abortedItem (h .cells) me) (aborted-unheld (h .cells) me) (λ i x a y. aborted-pending (h .cells) me i x y)
+  commit-neat : Neat h (committedBy h me) me
+  commit-neat =
+      let N = abort-neat in
+      record {
+        rows = λ i a c. committed-row L m i a (clear-has Certify _ (T .inside me i m a c));
+        pending = N .pending;
+        ticketless = N .ticketless;
+        named = N .named;
+        next = N .next;
+        inside = N .inside;
+      }
 
 -- A house after a request
 
@@ -268,73 +233,21 @@ changed B m F O N = (lawful (B .0) F m O, tidied (B .0) F m (B .1) N)
 turn-both : {h : House} {q : Request} {o : Outcome} → Both h → Turn h q o → Both (o .house)
 unfolding Both
 turn-both B (refused n) = B
+turn-both B (waits me A z c) = B
 turn-both B (begins me o K) = changed B (K .place) (begin-frame (B .0) K) (begin-own (B .0) K) (begin-neat (B .0) (B .1) K)
-turn-both B (reads me o S K) = changed B (K .place) (read-frame (B .0) K) (read-own (B .0) K) (read-neat (B .0) (B .1) K)
-turn-both B (writes me o S K) = changed B (K .place) (write-frame _ (B .0) K) (write-own _ (B .0) K) (write-neat _ (B .0) (B .1) K)
-turn-both B (certifies me o S K) = changed B (K .place) (certify-frame (B .0) K) (certify-own (B .0) K) (certify-neat (B .0) (B .1) K)
-turn-both B (commits me o S K) = changed B (K .place) (commit-frame (B .0) (K .place)) (leave-own (B .0) (K .place) _) (commit-neat (B .0) (B .1) K)
-turn-both B (aborts me o S) = let m = S .within .place in changed B m (abort-frame (B .0) m) (leave-own (B .0) m _) (abort-neat (B .0) (B .1) m)
-turn-both B (asks me o S) = B
+turn-both B (reads me o A K) = changed B (K .place) (read-frame (B .0) K) (read-own (B .0) K) (read-neat (B .0) (B .1) K)
+turn-both B (writes me o A K) = changed B (K .place) (write-frame _ (B .0) K) (write-own _ (B .0) K) (write-neat _ (B .0) (B .1) K)
+turn-both B (certifies me o A K) = changed B (K .place) (certify-frame (B .0) K) (certify-own (B .0) K) (certify-neat (B .0) (B .1) K)
+turn-both B (commits me o A K) = let m = K .place in changed B m (commit-frame (B .0) m) (commit-own (B .0) m) (commit-neat (B .0) (B .1) m)
+turn-both B (aborts me o A) = let m = A .seated .within .place in changed B m (abort-frame (B .0) m) (abort-own (B .0) m) (abort-neat (B .0) (B .1) m)
+turn-both B (asks me o A) = B
 
 pub step-keeps : StepKeeps
 unfolding Both
 step-keeps h K q = let b = turn-both (kept-law K, kept-tidy K) (turn h q) in kept (b .0) (b .1)
 
--- A house after an opening
-
--- with levels that pass the checks
-opened-kept : (levels : List ℕ) → length levels ≤ 64 → ((i : ℕ) → getD levels i 0 < 4) → Kept (opened levels)
-unfolding opened
-opened-kept levels few low =
-    let free : (p : ℕ) → p < 32 → isFree (placeAt (opened levels .places) p .standing) ≡ true = λ p b. ap (λ x. isFree (x .standing)) (opened-place levels p b) in
-    kept (clear-law (opened-sizes levels) free (opened-cell levels))
-    (record {
-      count = few;
-      levels = λ i a. rw (opened-item levels i a) (low i);
-      rows = λ i a c. rw (opened-item levels i a, List·getD-eq-default levels 0 {n = i} c);
-      pending = λ i a none. rw (opened-item levels i a);
-      ticketless = λ p b f. rw (opened-place levels p b);
-      named = λ p b o. clash (free p b) o;
-      next = λ l b. rw (opened-next levels l b) (omega arith);
-      inside = λ p i b a c. opened-cell levels p i b a;
-    })
-
--- an opening that gets 0 has such levels
-module _ (levels : List ℕ) (e : openVerdict levels ≡ 0) where
-  right-length : wrongLength levels ≡ false
-  unfolding openVerdict
-  right-length = elim (is (wrongLength levels)) [ inl y ↦ absurd (omega (arith, rw y at e)) | inr y ↦ y ]
-
-  right-levels : wrongLevel levels ≡ false
-  unfolding openVerdict
-  right-levels = elim (is (wrongLevel levels)) [ inl y ↦ absurd (omega (arith, rw (right-length, y) at e)) | inr y ↦ y ]
-
-  few : length levels ≤ 64
-  unfolding wrongLength
-  few = ltb-false 64 (length levels) (or-false (eqb (length levels) 0) _ right-length .1)
-
-  low : (i : ℕ) → getD levels i 0 < 4
-  unfolding wrongLevel highAt
-  low i =
-      elim (is (ltb i (length levels))) [
-        | inl y ↦ omega (arith, ltb-false 3 (getD levels i 0) (any-none (highAt levels) 0 (length levels) right-levels i (omega arith) (omega (arith, ltb-true i (length levels) y))))
-        | inr y ↦ rw (List·getD-eq-default levels 0 {n = i} (ltb-false i (length levels) y)) (omega arith)
-      ]
-
-pub opening-has : OpeningHas
-unfolding opening
-opening-has levels =
-    elim (is (eqb (openVerdict levels) 0)) [
-      | inl y ↦ let e = eqb-true (openVerdict levels) 0 y in rw y (opened-kept levels (few levels e) (low levels e))
-      | inr y ↦ rw y (opened-kept [] (omega arith) (λ i. omega arith))
-    ]
-
 -- and after all requests
-
 pub finally-keeps : {h : House} → Kept h → (qs : List Request) → Kept (finally h qs)
 unfolding finally
 finally-keeps K [] = K
 finally-keeps K (q ∷ qs) = finally-keeps (step-keeps _ K q) qs
-
-pub reachable-has : ReachableHas
-reachable-has h R = rw (← R .comes) (finally-keeps (opening-has (R .levels)) (R .requests))

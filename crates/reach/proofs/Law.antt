@@ -7,15 +7,15 @@ use native.Mathlib.Omega.{arith}
 use mathlib.Core.Path.{_≡_, sym, ap, _∙_}
 use mathlib.Core.Logic.{_≢_, _⊎_, inl, inr}
 use mathlib.Core.Bool.{Bool, true, false, _||_}
+use lib.ListN.{getD, List·getD-map}
 use Rattle.house.specs.declared.House.{House}
-use Rattle.house.specs.declared.Item.{Item}
 use Rattle.house.specs.declared.Mark.{Mark}
 use Rattle.house.specs.declared.Mark.the-variants.{Read, Write, Certify, Signalled}
 use Rattle.house.specs.declared.Standing.{Standing}
 use Rattle.house.specs.Cell.{has, cellAt}
-use Rattle.house.specs.House.{Sizes, dominates, above, levelOf, itemAt, placeAt, isFree, isActive, isCertified}
+use Rattle.house.specs.House.{fixed, Sizes, dominates, above, levelOf, blank, itemAt, pendingAt, placeAt, isFree, isActive, isCertified}
 use Rattle.reach.specs.Kept.{Open, Issued}
-use Rattle.house.proofs.Tests.{is, same, clash, or-left, or-right, or-elim}
+use Rattle.house.proofs.Tests.{is, same, clash, or-left, or-right, or-elim, or-false}
 
 -- the cell says that its item is written: with the write lock or, once certified, with the certify lock
 unfoldable pub held : ℕ → Bool
@@ -33,19 +33,19 @@ pub held-elim : {A : Type 0} (c : ℕ) → held c ≡ true → (has Write c ≡ 
 unfolding held
 held-elim c e f g = or-elim (has Write c) (has Certify c) e f g
 
--- the committed pair of an item
-abbrev pub pair : Item → ℕ × ℕ
-pair x = (x .value, x .version)
+pub held-neither : (c : ℕ) → held c ≡ false → (has Write c ≡ false) × (has Certify c ≡ false)
+unfolding held
+held-neither c e = or-false (has Write c) (has Certify c) e
 
--- the cell c of an item x and of a place with level l and standing s
-pub record CellLaw (l : ℕ) (x : Item) (s : Standing) (c : ℕ) : Type 0 where
+-- the cell c of an item with level x and version v, and of a place with level l and standing s
+pub record CellLaw (x v l : ℕ) (s : Standing) (c : ℕ) : Type 0 where
   pub idle : isFree s ≡ true → c ≡ 0
   pub writing : has Write c ≡ true → isActive s ≡ true
   pub certifying : has Certify c ≡ true → isCertified s ≡ true
-  pub below : has Read c ≡ true → dominates l (x .level) ≡ true
+  pub below : has Read c ≡ true → dominates l x ≡ true
   pub heard : has Signalled c ≡ true → has Read c ≡ true
-  pub owned : held c ≡ true → x .level ≡ l
-  pub room : held c ≡ true → x .version < 4294967295
+  pub owned : held c ≡ true → x ≡ l
+  pub room : held c ≡ true → v < 4294967295
 
 -- a cell with a read lock from level a, on an item that level b has certified
 pub record Warned (a b c : ℕ) : Type 0 where
@@ -54,7 +54,7 @@ pub record Warned (a b c : ℕ) : Type 0 where
 
 pub record Law (h : House) : Type 0 where
   pub sizes : Sizes h
-  pub cells : (p i : ℕ) → p < 32 → i < 64 → CellLaw (levelOf p) (itemAt (h .items) i) (placeAt (h .places) p .standing) (cellAt (h .cells) p i)
+  pub cells : (p i : ℕ) → p < 32 → i < 64 → CellLaw (itemAt (h .items) i .level) (itemAt (h .items) i .version) (levelOf p) (placeAt (h .places) p .standing) (cellAt (h .cells) p i)
   pub sole : (p q i : ℕ) → p < 32 → q < 32 → i < 64 → held (cellAt (h .cells) p i) ≡ true → held (cellAt (h .cells) q i) ≡ true → p ≡ q
   pub warned : (p q i : ℕ) → p < 32 → q < 32 → i < 64 → q ≢ p → has Certify (cellAt (h .cells) p i) ≡ true → has Read (cellAt (h .cells) q i) ≡ true → Warned (levelOf q) (levelOf p) (cellAt (h .cells) q i)
   pub apart : (p q : ℕ) → p < 32 → q < 32 → Open h p → Open h q → levelOf p ≡ levelOf q → placeAt (h .places) p .ticket ≡ placeAt (h .places) q .ticket → p ≡ q
@@ -73,8 +73,8 @@ pub clear-held : (c : ℕ) → c ≡ 0 → held c ≡ false
 unfolding held
 clear-held c z = rw (clear-has Write c z) (clear-has Certify c z)
 
-pub clear-lawful : (c : ℕ) → c ≡ 0 → (l : ℕ) (x : Item) (s : Standing) → CellLaw l x s c
-clear-lawful c z l x s =
+pub clear-lawful : (c : ℕ) → c ≡ 0 → (x v l : ℕ) (s : Standing) → CellLaw x v l s c
+clear-lawful c z x v l s =
     record {
       idle = λ f. z;
       writing = λ w. clash w (clear-has Write c z);
@@ -90,7 +90,7 @@ pub clear-law : {h : House} → Sizes h → ((p : ℕ) → p < 32 → isFree (pl
 clear-law z free clear =
     record {
       sizes = z;
-      cells = λ p i b a. clear-lawful _ (clear p i b a) _ _ _;
+      cells = λ p i b a. clear-lawful _ (clear p i b a) _ _ _ _;
       sole = λ p q i b c a x y. clash x (clear-held _ (clear p i b a));
       warned = λ p q i b c a n x y. clash y (clear-has Read _ (clear q i c a));
       apart = λ p q b c x y l t. clash (free p b) x;
@@ -101,7 +101,11 @@ clear-law z free clear =
 pub locked-open : {h : House} → Law h → (m : Mark) (p i : ℕ) → p < 32 → i < 64 → has m (cellAt (h .cells) p i) ≡ true → Open h p
 locked-open {h} L m p i b a e = elim (is (isFree (placeAt (h .places) p .standing))) [ inl f ↦ clash e (clear-has m _ (L .cells p i b a .idle f)) | inr f ↦ f ]
 
--- A change by the transaction at `me`
+-- what one has written, no other has
+pub unheld : {h : House} → Law h → (p q i : ℕ) → p < 32 → q < 32 → i < 64 → p ≢ q → held (cellAt (h .cells) q i) ≡ true → held (cellAt (h .cells) p i) ≡ false
+unheld {h} L p q i b c a n y = elim (is (held (cellAt (h .cells) p i))) [ inl x ↦ absurd (n (L .sole p q i b c a x y)) | inr x ↦ x ]
+
+-- A CHANGE by the transaction at `me`. What an opening fixed stays, and is spoken of as it is in the house before
 
 -- what a cell c of another place becomes: at most signalled
 pub record Spared (c d : ℕ) : Type 0 where
@@ -116,30 +120,56 @@ pub spared-same : {c d : ℕ} → d ≡ c → Spared c d
 spared-same e = record { clear = λ z. e ∙ z; reading = ap (has Read) e; writing = ap (has Write) e; certifying = ap (has Certify) e; signal = λ s. ap (has Signalled) e ∙ s; heard = λ s. inl (sym (ap (has Signalled) e) ∙ s) }
 
 pub record Frame (h h′ : House) (me : ℕ) : Type 0 where
+  pub fixed : fixed h′ ≡ fixed h
   pub sizes : Sizes h′
-  pub level : (i : ℕ) → i < 64 → itemAt (h′ .items) i .level ≡ itemAt (h .items) i .level
   pub place : (p : ℕ) → p < 32 → p ≢ me → placeAt (h′ .places) p ≡ placeAt (h .places) p
   pub cell : (p i : ℕ) → p < 32 → i < 64 → p ≢ me → Spared (cellAt (h .cells) p i) (cellAt (h′ .cells) p i)
-  -- an item that another has written is as it was
-  pub item : (p i : ℕ) → p < 32 → i < 64 → p ≢ me → held (cellAt (h .cells) p i) ≡ true → itemAt (h′ .items) i ≡ itemAt (h .items) i
-  -- so is the committed pair that another has read, unless that cell is signalled
-  pub row : (p i : ℕ) → p < 32 → i < 64 → p ≢ me → has Read (cellAt (h .cells) p i) ≡ true → has Signalled (cellAt (h′ .cells) p i) ≡ false → pair (itemAt (h′ .items) i) ≡ pair (itemAt (h .items) i)
+  -- an item that another has written is as it was, in its row and in its pending value
+  pub item : (p i : ℕ) → p < 32 → i < 64 → p ≢ me → held (cellAt (h .cells) p i) ≡ true → (itemAt (h′ .items) i ≡ itemAt (h .items) i) × (pendingAt (h′ .pending) i ≡ pendingAt (h .pending) i)
+  -- so is the row that another has read, unless that cell is signalled
+  pub row : (p i : ℕ) → p < 32 → i < 64 → p ≢ me → has Read (cellAt (h .cells) p i) ≡ true → has Signalled (cellAt (h′ .cells) p i) ≡ false → itemAt (h′ .items) i ≡ itemAt (h .items) i
   pub issued : (l t : ℕ) → l < 4 → Issued h l t → Issued h′ l t
 
 pub record Own (h h′ : House) (me : ℕ) : Type 0 where
-  pub cells : (i : ℕ) → i < 64 → CellLaw (levelOf me) (itemAt (h′ .items) i) (placeAt (h′ .places) me .standing) (cellAt (h′ .cells) me i)
+  pub cells : (i : ℕ) → i < 64 → CellLaw (itemAt (h .items) i .level) (itemAt (h′ .items) i .version) (levelOf me) (placeAt (h′ .places) me .standing) (cellAt (h′ .cells) me i)
   pub sole : (p i : ℕ) → p < 32 → i < 64 → p ≢ me → held (cellAt (h′ .cells) me i) ≡ true → held (cellAt (h .cells) p i) ≡ false
   pub warns : (p i : ℕ) → p < 32 → i < 64 → p ≢ me → has Certify (cellAt (h′ .cells) me i) ≡ true → has Read (cellAt (h .cells) p i) ≡ true → Warned (levelOf p) (levelOf me) (cellAt (h′ .cells) p i)
   pub warned : (p i : ℕ) → p < 32 → i < 64 → p ≢ me → has Certify (cellAt (h .cells) p i) ≡ true → has Read (cellAt (h′ .cells) me i) ≡ true → Warned (levelOf me) (levelOf p) (cellAt (h′ .cells) me i)
   pub apart : (p : ℕ) → p < 32 → p ≢ me → Open h′ me → Open h p → levelOf p ≡ levelOf me → placeAt (h .places) p .ticket ≢ placeAt (h′ .places) me .ticket
   pub issued : Open h′ me → Issued h′ (levelOf me) (placeAt (h′ .places) me .ticket)
 
+-- of one whose cells are clear afterwards, what is left to say is its name
+pub clear-own : {h h′ : House} {me : ℕ}
+    → ((i : ℕ) → i < 64 → cellAt (h′ .cells) me i ≡ 0)
+    → ((p : ℕ) → p < 32 → p ≢ me → Open h′ me → Open h p → levelOf p ≡ levelOf me → placeAt (h .places) p .ticket ≢ placeAt (h′ .places) me .ticket)
+    → (Open h′ me → Issued h′ (levelOf me) (placeAt (h′ .places) me .ticket))
+    → Own h h′ me
+clear-own clear apart issued =
+    record {
+      cells = λ i a. clear-lawful _ (clear i a) _ _ _ _;
+      sole = λ p i b a n g. clash g (clear-held _ (clear i a));
+      warns = λ p i b a n c r. clash c (clear-has Certify _ (clear i a));
+      warned = λ p i b a n c r. clash r (clear-has Read _ (clear i a));
+      apart = apart;
+      issued = issued;
+    }
+
+-- so there are as many items, each at its level
+
+pub same-count : {h h′ : House} {me : ℕ} → Frame h h′ me → h′ .count ≡ h .count
+unfolding fixed
+same-count F = ap (λ x. x .0) (F .fixed)
+
+pub same-level : {h h′ : House} {me : ℕ} → Frame h h′ me → (i : ℕ) → itemAt (h′ .items) i .level ≡ itemAt (h .items) i .level
+unfolding fixed
+same-level {h} {h′} F i = sym (List·getD-map (λ x. x .level) (h′ .items) i blank) ∙ ap (λ x. getD (x .1) i 0) (F .fixed) ∙ List·getD-map (λ x. x .level) (h .items) i blank
+
 module _ {h h′ : House} {me : ℕ} (L : Law h) (F : Frame h h′ me) where
   pub held-kept : (p i : ℕ) → p < 32 → i < 64 → p ≢ me → held (cellAt (h′ .cells) p i) ≡ held (cellAt (h .cells) p i)
   unfolding held
   held-kept p i b a n = let s = F .cell p i b a n in rw (s .writing, s .certifying)
 
-  other-lawful : (p i : ℕ) → p < 32 → i < 64 → p ≢ me → CellLaw (levelOf p) (itemAt (h′ .items) i) (placeAt (h′ .places) p .standing) (cellAt (h′ .cells) p i)
+  other-lawful : (p i : ℕ) → p < 32 → i < 64 → p ≢ me → CellLaw (itemAt (h .items) i .level) (itemAt (h′ .items) i .version) (levelOf p) (placeAt (h′ .places) p .standing) (cellAt (h′ .cells) p i)
   other-lawful p i b a n =
       let s = F .cell p i b a n in
       let k = L .cells p i b a in
@@ -149,17 +179,17 @@ module _ {h h′ : House} {me : ℕ} (L : Law h) (F : Frame h h′ me) where
         idle = λ f. s .clear (k .idle f);
         writing = λ w. k .writing (sym (s .writing) ∙ w);
         certifying = λ c. k .certifying (sym (s .certifying) ∙ c);
-        below = λ r. rw (F .level i a) (k .below (sym (s .reading) ∙ r));
+        below = λ r. k .below (sym (s .reading) ∙ r);
         heard = λ x. s .reading ∙ elim (s .heard x) [ inl y ↦ k .heard y | inr y ↦ y ];
-        owned = λ g. F .level i a ∙ k .owned (sym hk ∙ g);
-        room = λ g. rw (F .item p i b a n (sym hk ∙ g)) (k .room (sym hk ∙ g));
+        owned = λ g. k .owned (sym hk ∙ g);
+        room = λ g. rw (F .item p i b a n (sym hk ∙ g) .0) (k .room (sym hk ∙ g));
       })
 
   pub lawful : me < 32 → Own h h′ me → Law h′
   lawful m O =
       record {
         sizes = F .sizes;
-        cells = λ p i b a. elim (same p me) [ inl e ↦ rw e (O .cells i a) | inr n ↦ other-lawful p i b a n ];
+        cells = λ p i b a. rw (same-level F i) (elim (same p me) [ inl e ↦ rw e (O .cells i a) | inr n ↦ other-lawful p i b a n ]);
         sole = λ p q i b c a x y.
             elim (same p me) [
               | inl e ↦ elim (same q me) [ inl f ↦ e ∙ sym f | inr n ↦ clash (sym (held-kept q i c a n) ∙ y) (O .sole q i c a n (rw e at x)) ]

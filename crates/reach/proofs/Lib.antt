@@ -2,6 +2,7 @@ pub mod Law
 pub mod Turns
 pub mod Changes
 pub mod Kept
+pub mod Opened
 pub mod Guards
 pub mod Delay
 pub mod Decides

@@ -1,28 +1,32 @@
--- What a request can do, as cases: it is refused, or it is done by the transaction at some place, of which the checks have
--- left certain facts. Theorems about a step go by these cases and do not look at checks or at searches again.
+-- What a request can do, as cases: it is refused, or it waits, or it is done by the transaction at some place, of which the
+-- checks have left certain facts. Theorems about a step go by these cases and do not look at checks or at searches again.
 -- Assumes nothing.
 use Prim.Native.Nat.{ℕ, _<_}
 use native.Mathlib.Omega.{arith}
-use mathlib.Core.Path.{_≡_, sym, _∙_}
-use mathlib.Core.Logic.{_≢_, _⊎_, inl, inr}
-use mathlib.Core.Bool.{true, false, _||_}
-use lib.Dec.{leb}
-use borrow.Author.Tests.{eqb-true, eqb-false, ne-eqb, leb-false}
+use mathlib.Core.Path.{_≡_, refl, sym, _∙_}
+use mathlib.Core.Logic.{_≢_, inl, inr}
+use mathlib.Core.Bool.{Bool, true, false, cond}
+use mathlib.Core.List.{[], _∷_}
+use lib.Dec.{eqb, leb}
+use borrow.Author.Tests.{eqb-true, eqb-false, ne-eqb, leb-false, ltb-false}
 use Rattle.house.specs.declared.Answer.the-variants.{Refused, Done, Ticket}
-use Rattle.house.specs.declared.Found.the-variants.{At}
+use Rattle.house.specs.declared.Found.{Found}
+use Rattle.house.specs.declared.Found.the-variants.{At, Nobody}
 use Rattle.house.specs.declared.House.{House}
 use Rattle.house.specs.declared.Mark.the-variants.{Read, Write, Certify}
 use Rattle.house.specs.declared.Outcome.{Outcome}
 use Rattle.house.specs.declared.Request.{Request}
 use Rattle.house.specs.declared.Standing.the-variants.{Active, Certified}
+use Rattle.house.specs.Search.{ifFound}
 use Rattle.house.specs.Cell.{has, cellAt, holds, otherHolds, isSignalled}
 use Rattle.house.specs.House.{dominates, levelOf, itemAt, placeAt, nextAt, isFree, isCertified, vacancy}
-use Rattle.house.specs.Rules.{asker, noItem, forbidden, stopped, untimely, wornOut, crowded, ticketless, waitsAt, conflict, delayed, verdict, begun, readBy, readAnswer, writtenBy, certifiedBy, committedItem, abortedItem, left, askAnswer, outcome, served, performed, stepped}
-use Rattle.house.proofs.Tests.{same, or-false, and-right-false, not-is}
+use Rattle.house.specs.Checks.{foremost}
+use Rattle.house.specs.Rules.{asker, noLevel, usesItem, noItem, forbidden, stopped, untimely, wornOut, crowded, ticketless, waitsAt, conflict, delayed, refusals, checks, verdict, begun, readBy, readFor, writtenBy, certifiedBy, committedBy, abortedBy, askAnswer, outcome, served, performed, stepped}
+use Rattle.house.proofs.Tests.{is, same, clash, or-false, and-right-false, not-is}
 use Rattle.house.proofs.Searches.{any-none}
 use Rattle.house.proofs.Holders.{other-none, peer-none}
 use Rattle.house.proofs.Places.{Seated, seek-at, vacancy-at, is-active, is-certified}
-use Rattle.house.proofs.Checks.{clear, somebody, asker-known}
+use Rattle.house.proofs.Checks.{Clear, clear, verdict-is, somebody, asker-known}
 use Rattle.reach.proofs.Law.{held}
 
 -- Begin, at the free place `me` of level l
@@ -61,26 +65,36 @@ pub record MayCommit (h : House) (me : ℕ) : Type 0 where
   pub certified : placeAt (h .places) me .standing ≡ Certified
   pub unsignalled : isSignalled (h .cells) me ≡ false
 
-abbrev Asker : House → Request → ℕ → Type 0
-Asker h q me = Seated (h .places) (q .level) (q .ticket) me
+-- the transaction that asks is found at `me`, and so is seated there
+pub record Asker (h : House) (q : Request) (me : ℕ) : Type 0 where
+  pub at : asker h q ≡ At me
+  pub seated : Seated (h .places) (q .level) (q .ticket) me
+
+pub found : {h : House} {q : Request} {me : ℕ} → q .level < 4 → asker h q ≡ At me → Asker h q me
+found {h} {q} {me} b a = record { at = a; seated = seek-at (h .places) (q .level) (q .ticket) me b a }
 
 -- the cases, with what each yields
 pub data Turn (h : House) (q : Request) : Outcome → Type 0 where
-  refused : verdict h q ≢ 0 → Turn h q (outcome h q (Refused (verdict h q)))
+  refused : foremost (refusals h q) ≢ 0 → Turn h q (outcome h q (Refused (foremost (refusals h q))))
+  waits : (me : ℕ) → Asker h q me → foremost (refusals h q) ≡ 0 → conflict (h .cells) q me ≡ true → Turn h q (outcome h q (Refused 1))
   begins : (me : ℕ) → q .operation ≡ 0 → MayBegin h (q .level) me → Turn h q (outcome (begun h (q .level) me) q (Ticket (nextAt (h .next) (q .level))))
-  reads : (me : ℕ) → q .operation ≡ 1 → Asker h q me → MayRead h me (q .item) → Turn h q (outcome (readBy h me (q .item)) q (readAnswer (h .cells) (itemAt (h .items) (q .item)) me (q .item)))
+  reads : (me : ℕ) → q .operation ≡ 1 → Asker h q me → MayRead h me (q .item) → Turn h q (outcome (readBy h me (q .item)) q (readFor h me (q .item)))
   writes : (me : ℕ) → q .operation ≡ 2 → Asker h q me → MayWrite h me (q .item) → Turn h q (outcome (writtenBy h me (q .item) (q .value)) q Done)
   certifies : (me : ℕ) → q .operation ≡ 3 → Asker h q me → MayCertify h me → Turn h q (outcome (certifiedBy h me) q Done)
-  commits : (me : ℕ) → q .operation ≡ 4 → Asker h q me → MayCommit h me → Turn h q (outcome (left (committedItem (h .cells) me) h me) q Done)
-  aborts : (me : ℕ) → q .operation ≡ 5 → Asker h q me → Turn h q (outcome (left (abortedItem (h .cells) me) h me) q Done)
+  commits : (me : ℕ) → q .operation ≡ 4 → Asker h q me → MayCommit h me → Turn h q (outcome (committedBy h me) q Done)
+  aborts : (me : ℕ) → q .operation ≡ 5 → Asker h q me → Turn h q (outcome (abortedBy h me) q Done)
   asks : (me : ℕ) → q .operation ≡ 6 → Asker h q me → Turn h q (outcome h q (askAnswer (h .cells) me))
 
--- the answer of a step, refused and done
-pub refused-is : (h : House) (q : Request) → verdict h q ≢ 0 → stepped h q ≡ outcome h q (Refused (verdict h q))
-unfolding stepped
-refused-is h q n = rw (ne-eqb (verdict h q) 0 n)
+-- a refusal comes before a delay
+pub first-refused : (h : House) (q : Request) → foremost (refusals h q) ≢ 0 → verdict h q ≡ foremost (refusals h q)
+first-refused h q n = verdict-is h q ∙ rw (ne-eqb (foremost (refusals h q)) 0 n)
 
-done-is : (h : House) (q : Request) → verdict h q ≡ 0 → stepped h q ≡ performed h q
+-- the answer of a step, refused and done
+pub refused-is : (h : House) (q : Request) (n : ℕ) → verdict h q ≡ n → n ≢ 0 → stepped h q ≡ outcome h q (Refused n)
+unfolding stepped
+refused-is h q n v z = rw (v, ne-eqb n 0 z)
+
+pub done-is : (h : House) (q : Request) → verdict h q ≡ 0 → stepped h q ≡ performed h q
 unfolding stepped
 done-is h q e = rw e
 
@@ -93,7 +107,7 @@ unfolding performed
 served-is h q me n a = rw (ne-eqb (q .operation) 0 n, a)
 
 module _ (h : House) (q : Request) (me : ℕ) where
-  read-is : q .operation ≡ 1 → served h q me ≡ outcome (readBy h me (q .item)) q (readAnswer (h .cells) (itemAt (h .items) (q .item)) me (q .item))
+  read-is : q .operation ≡ 1 → served h q me ≡ outcome (readBy h me (q .item)) q (readFor h me (q .item))
   unfolding served
   read-is o = rw o
 
@@ -105,11 +119,11 @@ module _ (h : House) (q : Request) (me : ℕ) where
   unfolding served
   certify-is o = rw o
 
-  commit-is : q .operation ≡ 4 → served h q me ≡ outcome (left (committedItem (h .cells) me) h me) q Done
+  commit-is : q .operation ≡ 4 → served h q me ≡ outcome (committedBy h me) q Done
   unfolding served
   commit-is o = rw o
 
-  abort-is : q .operation ≡ 5 → served h q me ≡ outcome (left (abortedItem (h .cells) me) h me) q Done
+  abort-is : q .operation ≡ 5 → served h q me ≡ outcome (abortedBy h me) q Done
   unfolding served
   abort-is o = rw o
 
@@ -117,55 +131,61 @@ module _ (h : House) (q : Request) (me : ℕ) where
   unfolding served
   ask-is o = rw o
 
-module _ (h : House) (q : Request) (v : verdict h q ≡ 0) where
+-- the item of a read or a write is there, and is a row
+pub item-there : (h : House) (q : Request) → usesItem q ≡ true → noItem h q ≡ false → (q .item < h .count) × (q .item < 64)
+unfolding noItem
+item-there h q u e =
+    let k = or-false (leb (h .count) (q .item)) (leb 64 (q .item)) (rw u at e) in
+    (leb-false (h .count) (q .item) (k .0), leb-false 64 (q .item) (k .1))
+
+-- one who is delayed is found, and has the conflict
+pub delayed-at : (h : House) (q : Request) → delayed h q ≡ true → (me : ℕ) × (asker h q ≡ At me) × (conflict (h .cells) q me ≡ true)
+unfolding delayed
+delayed-at h q d = somewhere (asker h q) (conflict (h .cells) q) d
+  where
+    somewhere : (who : Found) (f : ℕ → Bool) → ifFound who f false ≡ true → (p : ℕ) × (who ≡ At p) × (f p ≡ true)
+    somewhere (At p) f e = (p, refl, e)
+    somewhere Nobody f e = clash e refl
+
+module _ (h : House) (q : Request) (z : foremost (refusals h q) ≡ 0) where
+  abbrev c : Clear h q
+  c = clear h q z
+
   may-begin : q .operation ≡ 0 → (me : ℕ) × (vacancy (h .places) (q .level) ≡ At me) × MayBegin h (q .level) me
   unfolding crowded ticketless
   may-begin o =
-      let c = clear h q v in
       let s = somebody (vacancy (h .places) (q .level)) (rw o at (c .roomy)) in
       let u = vacancy-at (h .places) (q .level) (s .0) (c .level) (s .1) in
       (s .0, s .1, record { level = c .level; place = u .within .place; placed = u .within .level; empty = u .free; ticket = eqb-false _ 0 (rw o at (c .ticketed)) })
 
-  module _ (me : ℕ) (a : asker h q ≡ At me) where
-    seated : Asker h q me
-    seated = seek-at (h .places) (q .level) (q .ticket) me (clear h q v .level) a
-
-    item-there : q .operation ≡ 1 ⊎ q .operation ≡ 2 → (q .item < h .count) × (q .item < 64)
-    unfolding noItem
-    item-there o =
-        let e : leb (h .count) (q .item) || leb 64 (q .item) ≡ false = elim o [ inl o ↦ rw o at (clear h q v .present) | inr o ↦ rw o at (clear h q v .present) ] in
-        let k = or-false (leb (h .count) (q .item)) (leb 64 (q .item)) e in
-        (leb-false (h .count) (q .item) (k .0), leb-false 64 (q .item) (k .1))
-
+  module _ (me : ℕ) (A : Asker h q me) (undelayed : delayed h q ≡ false) where
     still-active : isCertified (placeAt (h .places) me .standing) ≡ false → placeAt (h .places) me .standing ≡ Active
-    still-active e = is-active _ (seated .taken) e
+    still-active e = is-active _ (A .seated .taken) e
 
     may-read : q .operation ≡ 1 → MayRead h me (q .item)
     unfolding forbidden untimely delayed conflict
     may-read o =
-        let c = clear h q v in
-        let i = item-there (inl o) in
+        let i = item-there h q (rw o) (c .present) in
         record {
-          place = seated .within .place;
+          place = A .seated .within .place;
           row = i .1;
           item = i .0;
-          active = still-active (rw (o, a) at (c .timely));
-          may = rw (seated .within .level) (not-is _ (rw o at (c .allowed)));
-          uncontested = other-none (h .cells) Certify me (q .item) (rw (o, a) at (c .undelayed));
+          active = still-active (rw (o, A .at) at (c .timely));
+          may = rw (A .seated .within .level) (not-is _ (rw o at (c .allowed)));
+          uncontested = other-none (h .cells) Certify me (q .item) (rw (o, A .at) at undelayed);
         }
 
     may-write : q .operation ≡ 2 → MayWrite h me (q .item)
     unfolding forbidden untimely wornOut delayed conflict held
     may-write o =
-        let c = clear h q v in
-        let i = item-there (inr o) in
-        let n = or-false (otherHolds (h .cells) Write me (q .item)) (otherHolds (h .cells) Certify me (q .item)) (rw (o, a) at (c .undelayed)) in
+        let i = item-there h q (rw o) (c .present) in
+        let n = or-false (otherHolds (h .cells) Write me (q .item)) (otherHolds (h .cells) Certify me (q .item)) (rw (o, A .at) at undelayed) in
         record {
-          place = seated .within .place;
+          place = A .seated .within .place;
           row = i .1;
           item = i .0;
-          active = still-active (rw (o, a) at (c .timely));
-          mine = eqb-true _ _ (not-is _ (rw o at (c .allowed))) ∙ sym (seated .within .level);
+          active = still-active (rw (o, A .at) at (c .timely));
+          mine = eqb-true _ _ (not-is _ (rw o at (c .allowed))) ∙ sym (A .seated .within .level);
           room = leb-false 4294967295 (itemAt (h .items) (q .item) .version) (rw o at (c .fresh));
           uncontested = λ p b d. rw (other-none (h .cells) Write me (q .item) (n .0) p b d) (other-none (h .cells) Certify me (q .item) (n .1) p b d);
         }
@@ -173,55 +193,62 @@ module _ (h : House) (q : Request) (v : verdict h q ≡ 0) where
     may-certify : q .operation ≡ 3 → MayCertify h me
     unfolding untimely delayed conflict waitsAt holds
     may-certify o =
-        let c = clear h q v in
-        let n = any-none (waitsAt (h .cells) me) 0 64 (rw (o, a) at (c .undelayed)) in
+        let n = any-none (waitsAt (h .cells) me) 0 64 (rw (o, A .at) at undelayed) in
         record {
-          place = seated .within .place;
-          active = still-active (rw (o, a) at (c .timely));
+          place = A .seated .within .place;
+          active = still-active (rw (o, A .at) at (c .timely));
           unread = λ p i b d l w. peer-none (h .cells) Read me i (and-right-false _ _ w (n i (omega arith) (omega arith))) p l d;
         }
 
     may-commit : q .operation ≡ 4 → MayCommit h me
     unfolding untimely stopped
     may-commit o =
-        let c = clear h q v in
         record {
-          place = seated .within .place;
-          certified = is-certified _ (seated .taken) (rw (o, a) at (c .timely));
-          unsignalled = rw (o, a) at (c .unstopped);
+          place = A .seated .within .place;
+          certified = is-certified _ (A .seated .taken) (rw (o, A .at) at (c .timely));
+          unsignalled = rw (o, A .at) at (c .unstopped);
         }
 
     turn-served : q .operation ≢ 0 → Turn h q (served h q me)
     turn-served n0 =
         elim (same (q .operation) 1) [
-          | inl o ↦ rw (read-is h q me o) (reads me o seated (may-read o))
+          | inl o ↦ rw (read-is h q me o) (reads me o A (may-read o))
           | inr n1 ↦
               elim (same (q .operation) 2) [
-                | inl o ↦ rw (write-is h q me o) (writes me o seated (may-write o))
+                | inl o ↦ rw (write-is h q me o) (writes me o A (may-write o))
                 | inr n2 ↦
                     elim (same (q .operation) 3) [
-                      | inl o ↦ rw (certify-is h q me o) (certifies me o seated (may-certify o))
+                      | inl o ↦ rw (certify-is h q me o) (certifies me o A (may-certify o))
                       | inr n3 ↦
                           elim (same (q .operation) 4) [
-                            | inl o ↦ rw (commit-is h q me o) (commits me o seated (may-commit o))
+                            | inl o ↦ rw (commit-is h q me o) (commits me o A (may-commit o))
                             | inr n4 ↦
                                 elim (same (q .operation) 5) [
-                                  | inl o ↦ rw (abort-is h q me o) (aborts me o seated)
+                                  | inl o ↦ rw (abort-is h q me o) (aborts me o A)
                                   | inr n5 ↦
-                                      let o : q .operation ≡ 6 = let b = clear h q v .operation in omega arith in
-                                      rw (ask-is h q me o) (asks me o seated)
+                                      let o : q .operation ≡ 6 = let b = c .operation in omega arith in
+                                      rw (ask-is h q me o) (asks me o A)
                                 ]
                           ]
                     ]
               ]
         ]
 
-  turn-done : Turn h q (performed h q)
-  turn-done = elim (same (q .operation) 0) [
+  turn-done : delayed h q ≡ false → Turn h q (performed h q)
+  turn-done d = elim (same (q .operation) 0) [
     | inl o ↦ let b = may-begin o in rw (begun-is h q (b .0) o (b .1)) (begins (b .0) o (b .2))
-    | inr n ↦ let k = asker-known h q n v in rw (served-is h q (k .0) n (k .1)) (turn-served (k .0) (k .1) n)
+    | inr n ↦ let k = asker-known h q n z in rw (served-is h q (k .0) n (k .1)) (turn-served (k .0) (found (c .level) (k .1)) d n)
   ]
 
 -- every request is one of them
 pub turn : (h : House) (q : Request) → Turn h q (stepped h q)
-turn h q = elim (same (verdict h q) 0) [ inl v ↦ rw (done-is h q v) (turn-done h q v) | inr n ↦ rw (refused-is h q n) (refused n) ]
+turn h q =
+    elim (same (foremost (refusals h q)) 0) [
+      | inl z ↦ elim (is (delayed h q)) [
+        | inl d ↦
+            let w = delayed-at h q d in
+            rw (refused-is h q 1 (verdict-is h q ∙ rw (z, d)) (λ e. omega arith)) (waits (w .0) (found (clear h q z .level) (w .1)) z (w .2))
+        | inr d ↦ rw (done-is h q (verdict-is h q ∙ rw (z, d))) (turn-done h q z d)
+      ]
+      | inr n ↦ rw (refused-is h q _ (first-refused h q n) n) (refused n)
+    ]

@@ -1,15 +1,17 @@
--- Demand 1, of every house value and every request, reachable or not: each request gets a reply from the table, a refusal or a
--- delay leaves the house as it was, and no caller is trusted to have looked first.
+-- Demand 1, of every house value and every request, reachable or not: each request gets a reply from the table, the first number
+-- that applies; a refusal or a delay leaves the house as it was; and no caller is trusted to have looked first.
 -- Assumes nothing.
 use Prim.Native.Nat.{ℕ, _≤_, _<_}
 use mathlib.Core.Path.{_≡_}
 use mathlib.Core.Logic.{_≢_, _⊎_}
-use mathlib.Core.Bool.{false}
+use mathlib.Core.Bool.{false, _&&_, not}
 use mathlib.Core.List.{List}
+use lib.Dec.{eqb}
 use Rattle.house.specs.declared.House.{House}
 use Rattle.house.specs.declared.Request.{Request}
-use Rattle.house.specs.House.{levelOf, placeAt}
-use Rattle.house.specs.Rules.{begin, noOperation, noLevel, unusedSet, stepped}
+use Rattle.house.specs.House.{fixed, levelOf, placeAt}
+use Rattle.house.specs.Checks.{someApplies, testOf, before}
+use Rattle.house.specs.Rules.{begin, noOperation, noLevel, unusedSet, checks, performed, stepped}
 use Rattle.house.specs.Opening.{opening}
 use Rattle.reach.specs.Reach.{Reachable}
 use Rattle.reach.specs.Kept.{Open}
@@ -24,12 +26,24 @@ Stranger h q = (p : ℕ) → p < 32 → levelOf p ≡ q .level → Open h p → 
 abbrev pub RefusalKeeps : Type 0
 RefusalKeeps = (h : House) (q : Request) → stepped h q .reply .number ≢ 0 → stepped h q .house ≡ h
 
+-- "The first that applies is given, and it is given only then": number n, where its test holds and none before it does
+abbrev pub FirstGiven : Type 0
+FirstGiven = (h : House) (q : Request) (n : ℕ) → n ≢ 0 → eqb (stepped h q .reply .number) n ≡ (testOf n (checks h q) && not (someApplies (before n (checks h q))))
+
+-- so 0, "done", is given exactly when none applies, and then the request is done
+abbrev pub DoneExactly : Type 0
+DoneExactly = (h : House) (q : Request) → (eqb (stepped h q .reply .number) 0 ≡ not (someApplies (checks h q))) × (stepped h q .reply .number ≡ 0 → stepped h q ≡ performed h q)
+
 -- the number of every reply stands in the table: 0 to 12, and of an opening 0, 13 or 14
 abbrev pub NumberStands : Type 0
 NumberStands = (h : House) (q : Request) → stepped h q .reply .number ≤ 12
 
 abbrev pub OpeningStands : Type 0
 OpeningStands = (levels : List ℕ) → (opening levels .number ≡ 0) ⊎ ((opening levels .number ≡ 13) ⊎ (opening levels .number ≡ 14))
+
+-- "Each has a fixed level": no request changes it, nor how many items there are
+abbrev pub FixedStays : Type 0
+FixedStays = (h : House) (q : Request) → fixed (stepped h q .house) ≡ fixed h
 
 -- "Every reply repeats operation .. as they came"
 abbrev pub OperationRepeats : Type 0

@@ -9,7 +9,7 @@ use Rattle.house.specs.declared.House.{House}
 use Rattle.house.specs.declared.Mark.the-variants.{Read, Write, Certify, Signalled}
 use Rattle.house.specs.declared.Request.{Request}
 use Rattle.house.specs.Cell.{cellAt, holds}
-use Rattle.house.specs.House.{Sizes, dominates, above, levelOf, blank, itemAt, placeAt, nextAt, isFree, isActive, isCertified}
+use Rattle.house.specs.House.{Sizes, dominates, above, levelOf, blank, itemAt, pendingAt, placeAt, nextAt, isFree, isActive, isCertified}
 use Rattle.house.specs.Rules.{stepped}
 use Rattle.house.specs.Opening.{opening}
 use Rattle.reach.specs.Reach.{Reachable}
@@ -29,16 +29,16 @@ wrote cells p i = holds cells Write p i || holds cells Certify p i
 -- Items are i < 64 and places p, r < 32 throughout
 pub record Kept (h : House) : Type 0 where
   -- THE ITEMS
-  -- the lists are as long as the arrays: 64 items, 32 places, 4 next tickets, 2,048 cells
+  -- the lists are as long as the arrays: 64 items, 64 pending values, 32 places, 4 next tickets, 2,048 cells
   pub sizes : Sizes h
   -- there are at most 64 items
   pub count : h .count ≤ 64
   -- an item's level is 0 to 3
   pub levels : (i : ℕ) → i < 64 → itemAt (h .items) i .level < 4
-  -- a row past the last item is blank
-  pub rows : (i : ℕ) → i < 64 → h .count ≤ i → itemAt (h .items) i ≡ blank
+  -- a row past the last item is blank, and nothing is pending there
+  pub rows : (i : ℕ) → i < 64 → h .count ≤ i → (itemAt (h .items) i ≡ blank) × (pendingAt (h .pending) i ≡ 0)
   -- the pending value is 0 when nobody has written
-  pub pending : (i : ℕ) → i < 64 → ((p : ℕ) → p < 32 → wrote (h .cells) p i ≡ false) → itemAt (h .items) i .pending ≡ 0
+  pub pending : (i : ℕ) → i < 64 → ((p : ℕ) → p < 32 → wrote (h .cells) p i ≡ false) → pendingAt (h .pending) i ≡ 0
   -- THE PLACES
   -- a free place has ticket 0
   pub ticketless : (p : ℕ) → p < 32 → isFree (placeAt (h .places) p .standing) ≡ true → placeAt (h .places) p .ticket ≡ 0
@@ -73,7 +73,7 @@ pub record Kept (h : House) : Type 0 where
   -- a written item's version can grow
   pub room : (p i : ℕ) → p < 32 → i < 64 → wrote (h .cells) p i ≡ true → itemAt (h .items) i .version < 4294967295
 
--- THE STATEMENTS, proved in proofs/Kept.antt
+-- THE STATEMENTS, proved in proofs/Kept.antt and proofs/Opened.antt
 
 -- an opening yields such a house, and a request leads from such a house to such a house
 abbrev pub OpeningHas : Type 0

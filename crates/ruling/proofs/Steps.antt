@@ -9,18 +9,22 @@ use borrow.Author.Tests.{eqb-true, eqb-false, lt-ltb, leb-false}
 use Rattle.house.specs.declared.House.{House}
 use Rattle.house.specs.declared.Request.{Request}
 use Rattle.house.specs.House.{Sizes, vacancy}
-use Rattle.house.specs.Rules.{begin, read, write, certify, commit, abort, _does_, usesItem, noItem, crowded, verdict, outcome, served, performed, stepped}
+use Rattle.house.specs.Checks.{foremost}
+use Rattle.house.specs.Rules.{begin, read, write, certify, commit, abort, _does_, usesItem, noItem, crowded, refusals, verdict, outcome, served, performed, stepped}
 use Rattle.house.proofs.Tests.{is, and-intro, and-right-false, or-false, or-left, or-right}
 use Rattle.house.proofs.Places.{seek-at, vacancy-at}
-use Rattle.house.proofs.Effects.{begun-sizes, read-sizes, written-sizes, certified-sizes, left-sizes}
-use Rattle.house.proofs.Checks.{Clear, clear, somebody, asker-known}
+use Rattle.house.proofs.Effects.{begun-sizes, read-sizes, written-sizes, certified-sizes, left-sizes, committed-sizes}
+use Rattle.house.proofs.Checks.{Clear, clear, passes, somebody, asker-known}
 use Rattle.ruling.specs.declared.Change.{Change}
 use Rattle.ruling.specs.declared.Change.the-variants.{Nothing, Begin, Read, Write, Certify, End}
 use Rattle.ruling.specs.Ruling.{effect, fits, granted, ruled}
 
 module _ (h : House) (q : Request) (passed : verdict h q ≡ 0) where
+  unrefused : foremost (refusals h q) ≡ 0
+  unrefused = passes h q passed .0
+
   abbrev c : Clear h q
-  c = clear h q passed
+  c = clear h q unrefused
 
   -- a read or a write that passed names a row
   item-below : usesItem q ≡ true → q .item < 64
@@ -41,7 +45,7 @@ module _ (h : House) (q : Request) (passed : verdict h q ≡ 0) where
   other-made : q does begin ≡ false → Made
   unfolding performed granted served
   other-made b =
-      let who = asker-known h q (eqb-false _ 0 b) passed in
+      let who = asker-known h q (eqb-false _ 0 b) unrefused in
       let me : ltb (who .0) 32 ≡ true = lt-ltb _ 32 (seek-at (h .places) (q .level) (q .ticket) (who .0) (c .level) (who .1) .within .place) in
       rw (b, who .1)
       (elim (is (q does read)) [
@@ -81,7 +85,8 @@ effect-sizes z (Begin l me) = begun-sizes z l me
 effect-sizes z (Read me i) = read-sizes z me i
 effect-sizes z (Write me i v) = written-sizes z me i v
 effect-sizes z (Certify me) = certified-sizes z me
-effect-sizes z (End me commits) = left-sizes z _ me
+effect-sizes z (End me true) = committed-sizes z me
+effect-sizes z (End me false) = left-sizes z me
 
 pub stepped-sizes : (h : House) → Sizes h → (q : Request) → Sizes (stepped h q .house)
 stepped-sizes h z q = rw (ruled-steps h q) (effect-sizes z (ruled h q .change))

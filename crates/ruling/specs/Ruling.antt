@@ -3,24 +3,22 @@
 -- Assumes nothing.
 use Prim.Native.Nat.{ℕ}
 use mathlib.Core.Bool.{Bool, true, false, cond, _&&_}
-use mathlib.Core.List.{List}
 use lib.Dec.{eqb, ltb}
 use Rattle.house.specs.declared.Answer.{Answer}
 use Rattle.house.specs.declared.Answer.the-variants.{Refused, Done, Ticket}
 use Rattle.house.specs.declared.House.{House}
-use Rattle.house.specs.declared.Item.{Item}
 use Rattle.house.specs.declared.Request.{Request}
 use Rattle.house.specs.Search.{ifFound}
-use Rattle.house.specs.House.{itemAt, nextAt, vacancy}
-use Rattle.house.specs.Rules.{begin, read, write, certify, commit, abort, _does_, asker, verdict, begun, readBy, readAnswer, writtenBy, certifiedBy, left, committedItem, abortedItem, askAnswer}
+use Rattle.house.specs.House.{nextAt, vacancy}
+use Rattle.house.specs.Rules.{begin, read, write, certify, commit, abort, _does_, asker, verdict, begun, readBy, readFor, writtenBy, certifiedBy, committedBy, abortedBy, askAnswer}
 use Rattle.ruling.specs.declared.Change.{Change}
 use Rattle.ruling.specs.declared.Change.the-variants.{Nothing, Begin, Read, Write, Certify, End}
 use Rattle.ruling.specs.declared.Ruling.{Ruling}
 
--- the items at the end of a transaction that commits, or aborts
-abbrev pub endedItem : Bool → List ℕ → ℕ → ℕ → Item → Item
-endedItem true = committedItem
-endedItem false = abortedItem
+-- the house at the end of a transaction that commits, or aborts
+abbrev pub endedBy : Bool → House → ℕ → House
+endedBy true = committedBy
+endedBy false = abortedBy
 
 -- the house after a change
 abbrev pub effect : House → Change → House
@@ -29,7 +27,7 @@ effect h (Begin l me) = begun h l me
 effect h (Read me i) = readBy h me i
 effect h (Write me i v) = writtenBy h me i v
 effect h (Certify me) = certifiedBy h me
-effect h (End me commits) = left (endedItem commits (h .cells) me) h me
+effect h (End me commits) = endedBy commits h me
 
 -- the change names a level, a place and an item that a house has; the judge rules no other (`ruled-fits`)
 abbrev pub fits : Change → Bool
@@ -56,7 +54,7 @@ granted h q =
     cond (q does begin) (ifFound (vacancy (h .places) (q .level)) (λ me. grant (Ticket (nextAt (h .next) (q .level))) (Begin (q .level) me)) (refusal 11))
     (ifFound (asker h q)
     (λ me.
-    cond (q does read) (grant (readAnswer (h .cells) (itemAt (h .items) (q .item)) me (q .item)) (Read me (q .item)))
+    cond (q does read) (grant (readFor h me (q .item)) (Read me (q .item)))
     (cond (q does write) (grant Done (Write me (q .item) (q .value)))
     (cond (q does certify) (grant Done (Certify me))
     (cond (q does commit) (grant Done (End me true))

@@ -2,6 +2,9 @@
 // The judge sees parts of the house and changes nothing; the change is made elsewhere, for done requests only.
 
 use house::Answer;
+use house::Item;
+use house::Place;
+use house::Request;
 
 // What specs/Ruling.antt (`effect`) makes of a house.
 pub enum Change {
@@ -21,4 +24,24 @@ pub enum Change {
 pub struct Ruling {
     pub answer: Answer,
     pub change: Change,
+}
+
+// What the judge is shown of a house, beside its cells: of the request's level the eight places and the next ticket, of its item
+// the row and the pending value.
+pub struct View {
+    pub count: usize,
+    pub eight: [Place; 8],
+    pub ticket: u32,
+    pub row: Item,
+    pub pending: u32,
+}
+
+// A request whose transaction was found: it stands at place `me`, whose row is `seat`.
+pub struct Case {
+    pub request: Request,
+    pub count: usize,
+    pub row: Item,
+    pub pending: u32,
+    pub me: usize,
+    pub seat: Place,
 }

@@ -10,12 +10,12 @@ use lib.Dec.{eqb}
 use Rattle.house.specs.declared.House.{House}
 use Rattle.house.specs.declared.Request.{Request}
 use Rattle.house.specs.Rules.{commit, stepped}
-use Rattle.house.specs.Opening.{opened, opening}
+use Rattle.house.specs.Opening.{opening}
+use Rattle.house.specs.Run.{finally}
 use Rattle.house.proofs.Tests.{is, clash}
 use Rattle.house.proofs.Lists.{mapFrom-same}
-use Rattle.house.proofs.Openings.{opened-sizes, opened-place, opened-cell}
-use Rattle.house.specs.Run.{finally}
 use Rattle.reach.proofs.Law.{clear-law}
+use Rattle.reach.proofs.Opened.{opening-has, opening-free}
 use Rattle.serial.specs.Demand.{Event, trace, done, wrote, Name, name, doing, work, commits, Row, Table, table, answer, answers, look, run, serially, Demand3, Untouched, OfUntouched, OfOpened}
 use Rattle.serial.proofs.Past.{Past, doings, shown, alone, Repeats, serial, Serial}
 use Rattle.serial.proofs.Step.{Closed, Known, step-known}
@@ -34,13 +34,10 @@ untouched-known U =
       closed = tt;
     }
 
-opened-untouched : (levels : List ℕ) → Untouched (opened levels)
-opened-untouched levels =
-    record { sizes = opened-sizes levels; free = λ p b. rw (opened-place levels p b); clear = opened-cell levels }
-
 pub opening-untouched : (levels : List ℕ) → Untouched (opening levels .house)
-unfolding opening
-opening-untouched levels = opened-untouched _
+opening-untouched levels =
+    let K = opening-has levels in
+    record { sizes = K .sizes; free = opening-free levels; clear = λ p i b a. K .idle p i b a (opening-free levels p b) }
 
 -- and where it comes to: the past is the trace, turned round
 known : {t : Table} {h : House} {past : Past} → Known t h past → (qs : List Request) → Known t (finally h qs) (reverseAux (trace h qs) past)

@@ -13,15 +13,15 @@ use Rattle.house.specs.declared.Answer.the-variants.{Refused, Done, Ticket}
 use Rattle.house.specs.declared.House.{House}
 use Rattle.house.specs.declared.Outcome.{Outcome}
 use Rattle.house.specs.declared.Request.{Request}
-use Rattle.house.specs.House.{itemAt, levelOf, placeAt, nextAt}
-use Rattle.house.specs.Rules.{read, write, commit, verdict, ticketAfter, begun, readBy, readAnswer, writtenBy, certifiedBy, left, committedItem, abortedItem, askAnswer, replied, stepped}
+use Rattle.house.specs.House.{levelOf, placeAt, nextAt}
+use Rattle.house.specs.Rules.{read, write, commit, ticketAfter, begun, readBy, readFor, writtenBy, certifiedBy, left, committedBy, abortedBy, askAnswer, replied, stepped}
 use Rattle.house.proofs.Tests.{same, clash}
 use Rattle.house.proofs.Places.{Seated}
 use Rattle.house.proofs.Effects.{begun-place, begun-next, certified-place, begun-next-other}
 use Rattle.reach.specs.Kept.{Open, Issued}
 use Rattle.reach.proofs.Law.{Law, Frame, Own, lawful}
-use Rattle.reach.proofs.Turns.{MayBegin, MayRead, MayWrite, MayCertify, MayCommit, Turn, refused, begins, reads, writes, certifies, commits, aborts, asks, turn}
-use Rattle.reach.proofs.Changes.{after-cases, begin-frame, begin-own, read-frame, read-own, write-frame, write-own, certify-frame, certify-own, freed, leave-own, commit-frame, abort-frame}
+use Rattle.reach.proofs.Turns.{MayBegin, MayRead, MayWrite, MayCertify, MayCommit, Turn, refused, waits, begins, reads, writes, certifies, commits, aborts, asks, turn}
+use Rattle.reach.proofs.Changes.{after-cases, begin-frame, begin-own, read-frame, read-own, write-frame, write-own, certify-frame, certify-own, freed, abort-frame, commit-frame, abort-own, commit-own}
 use Rattle.reach.proofs.Guards.{read-number}
 use Rattle.serial.specs.Demand.{Event, done, name, doing, Table, table}
 use Rattle.serial.proofs.Past.{Past, doings, alone, Repeats, serial, Serial, doings-skip, doings-take, serial-skip, serial-take, doing-other, quiet, doing-quiet}
@@ -156,9 +156,9 @@ unmoved {t} {h} {past} I e z c =
 -- The operations
 
 module _ {t : Table} {h : House} {past : Past} (I : Known t h past) (q : Request) where
-  refused-known : verdict h q ≢ 0 → Known t h ((q, replied q (Refused (verdict h q))) ∷ past)
+  refused-known : (n : ℕ) → n ≢ 0 → Known t h ((q, replied q (Refused n)) ∷ past)
   unfolding quiet
-  refused-known n = unmoved I _ (rw (ne-eqb (verdict h q) 0 n)) (rw (ne-eqb (verdict h q) 0 n))
+  refused-known n z = unmoved I _ (rw (ne-eqb n 0 z)) (rw (ne-eqb n 0 z))
 
   module _ (me : ℕ) where
     begin-unheard : MayBegin h (q .level) me → Unheard (begun h (q .level) me) past
@@ -185,11 +185,11 @@ module _ {t : Table} {h : House} {past : Past} (I : Known t h past) (q : Request
         (begin-unheard K) (begin-table h l me)
 
     module _ (S : Seated (h .places) (q .level) (q .ticket) me) where
-      read-known : q .operation ≡ 1 → MayRead h me (q .item) → Known t (readBy h me (q .item)) ((q, replied q (readAnswer (h .cells) (itemAt (h .items) (q .item)) me (q .item))) ∷ past)
+      read-known : q .operation ≡ 1 → MayRead h me (q .item) → Known t (readBy h me (q .item)) ((q, replied q (readFor h me (q .item))) ∷ past)
       unfolding readBy
       read-known o K =
           worked I (read-frame (I .law) K) (read-own (I .law) K) (K .place) _ (S .taken) (sym (S .within .level)) (sym (S .ticket))
-          (rw (read-number q (h .cells) (itemAt (h .items) (q .item)) me (q .item)) (rw o)) (rw (read-number q (h .cells) (itemAt (h .items) (q .item)) me (q .item)) (rw o)) refl (λ l. refl)
+          (rw (read-number h q me (q .item)) (rw o)) (rw (read-number h q me (q .item)) (rw o)) refl (λ l. refl)
           (read-told (I .law) q o K _ (I .told _ (K .place) (S .taken))) (read-table h me (q .item))
 
       write-known : q .operation ≡ 2 → MayWrite h me (q .item) → Known t (writtenBy h me (q .item) (q .value)) ((q, replied q Done) ∷ past)
@@ -206,15 +206,15 @@ module _ {t : Table} {h : House} {past : Past} (I : Known t h past) (q : Request
           calm I (certify-frame (I .law) K) (certify-own (I .law) K) (K .place) _ (λ x. inl (S .taken, rw here)) (rw o) (rw o)
           (λ x. rw here (certify-told (I .law) K _ (I .told _ (K .place) (S .taken)))) (I .unheard) (certify-table h me)
 
-      abort-known : q .operation ≡ 5 → Known t (left (abortedItem (h .cells) me) h me) ((q, replied q Done) ∷ past)
+      abort-known : q .operation ≡ 5 → Known t (abortedBy h me) ((q, replied q Done) ∷ past)
       unfolding quiet left
       abort-known o =
           let m = S .within .place in
-          let free = freed (I .law) m (abortedItem (h .cells) me) in
-          calm I (abort-frame (I .law) m) (leave-own (I .law) m _) m _ (λ x. clash free x) (rw o) (rw o) (λ x. clash free x) (I .unheard) (abort-table h me)
+          let free = freed (I .law) m in
+          calm I (abort-frame (I .law) m) (abort-own (I .law) m) m _ (λ x. clash free x) (rw o) (rw o) (λ x. clash free x) (I .unheard) (abort-table h me)
 
       -- after its commit a transaction is gone
-      ended : Gone (left (committedItem (h .cells) me) h me) (q .level) (q .ticket)
+      ended : Gone (committedBy h me) (q .level) (q .ticket)
       ended =
           let m = S .within .place in
           let lv = S .within .level in
@@ -224,20 +224,20 @@ module _ {t : Table} {h : House} {past : Past} (I : Known t h past) (q : Request
             issued = F .issued _ _ (omega arith) (rw (lv, S .ticket) at (I .law .issued me m (S .taken)));
             nobody = λ p b x y z.
                 elim (same p me) [
-                  | inl w ↦ clash (freed (I .law) m _) (rw w at x)
+                  | inl w ↦ clash (freed (I .law) m) (rw w at x)
                   | inr n ↦ n (I .law .apart p me b m (rw (F .place p b n) at x) (S .taken) (y ∙ sym lv) ((rw (F .place p b n) at z) ∙ sym (S .ticket)))
                 ];
           }
 
-      commit-known : q .operation ≡ 4 → MayCommit h me → Known t (left (committedItem (h .cells) me) h me) ((q, replied q Done) ∷ past)
+      commit-known : q .operation ≡ 4 → MayCommit h me → Known t (committedBy h me) ((q, replied q Done) ∷ past)
       unfolding quiet left
       commit-known o K =
           let m = K .place in
           let e : Event = (q, replied q Done) in
-          let free = freed (I .law) m (committedItem (h .cells) me) in
+          let free = freed (I .law) m in
           let told = I .told me m (S .taken) in
           let mine : doings (q .level, q .ticket) past ≡ own h past me = rw (S .within .level, S .ticket) in
-          assembled I (commit-frame (I .law) m) (leave-own (I .law) m _) m e (λ x. clash free x) (λ l n g. doing-quiet (l, n) e (rw o))
+          assembled I (commit-frame (I .law) m) (commit-own (I .law) m) m e (λ x. clash free x) (λ l n g. doing-quiet (l, n) e (rw o))
           (λ d. (ended, doing-quiet _ e (rw o))) (λ p b n x. doing-quiet _ e (rw o)) (λ x. clash free x)
           (λ l n b x y. doings-skip (l, n) e past (doing-quiet (l, n) e (rw o)) ∙ I .unheard l n b x y)
           (serial-take t e past (rw o) ∙ ap₂ alone mine (I .ends) ∙ sym (commit-table (I .law) K _ told))
@@ -248,14 +248,15 @@ module _ {t : Table} {h : House} {past : Past} (I : Known t h past) (q : Request
       ask-known o = unmoved I _ (rw o) (rw o)
 
   turn-known : {o : Outcome} → Turn h q o → Known t (o .house) ((q, o .reply) ∷ past)
-  turn-known (refused n) = refused-known n
+  turn-known (refused n) = refused-known _ n
+  turn-known (waits me A z c) = refused-known 1 (λ e. omega arith)
   turn-known (begins me o K) = begin-known me o K
-  turn-known (reads me o S K) = read-known me S o K
-  turn-known (writes me o S K) = write-known me S o K
-  turn-known (certifies me o S K) = certify-known me S o K
-  turn-known (commits me o S K) = commit-known me S o K
-  turn-known (aborts me o S) = abort-known me S o
-  turn-known (asks me o S) = ask-known me S o
+  turn-known (reads me o A K) = read-known me (A .seated) o K
+  turn-known (writes me o A K) = write-known me (A .seated) o K
+  turn-known (certifies me o A K) = certify-known me (A .seated) o K
+  turn-known (commits me o A K) = commit-known me (A .seated) o K
+  turn-known (aborts me o A) = abort-known me (A .seated) o
+  turn-known (asks me o A) = ask-known me (A .seated) o
 
   pub step-known : Known t (stepped h q .house) ((q, stepped h q .reply) ∷ past)
   step-known = turn-known (turn h q)

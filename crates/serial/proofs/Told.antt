@@ -4,12 +4,11 @@
 use Prim.Native.Nat.{ℕ, suc, _+_, _<_}
 use native.Mathlib.Omega.{arith}
 use native.Mathlib.Nat.{zero-add, add-zero, suc-add, add-suc}
-use mathlib.Core.Path.{_≡_, refl, sym, ap, ap₂, _∙_}
+use mathlib.Core.Path.{_≡_, refl, sym, ap₂, _∙_}
 use mathlib.Core.Logic.{_≢_, inl, inr}
 use mathlib.Core.Bool.{true, false, cond}
 use mathlib.Core.List.{List, [], _∷_, map}
 use lib.ListN.{length, getD, List·getD-map}
-use lib.Seq.{map-set-same}
 use lib.Dec.{eqb}
 use borrow.Author.Tests.{eq-eqb, ne-eqb, lt-ltb}
 use Rattle.house.specs.declared.Answer.the-variants.{Done}
@@ -19,14 +18,14 @@ use Rattle.house.specs.declared.Mark.the-variants.{Read, Write, Certify, Signal
 use Rattle.house.specs.declared.Request.{Request}
 use Rattle.house.specs.Search.{mapFrom}
 use Rattle.house.specs.Cell.{has, cellAt, holds, isSignalled}
-use Rattle.house.specs.House.{blank, itemAt}
-use Rattle.house.specs.Rules.{read, write, grown, begun, readBy, readAnswer, writtenBy, certifiedBy, left, committedItem, abortedItem, replied}
+use Rattle.house.specs.House.{blank, itemAt, pendingAt}
+use Rattle.house.specs.Rules.{read, write, grown, begun, readBy, readAnswer, readFor, writtenBy, certifiedBy, left, committedItem, committedBy, abortedBy, replied}
 use Rattle.house.proofs.Tests.{is, same, clash}
 use Rattle.house.proofs.Holders.{unsignalled}
-use Rattle.house.proofs.Effects.{written-item, written-item-other}
+use Rattle.house.proofs.Effects.{written-pending, written-pending-other}
 use Rattle.reach.proofs.Law.{held, held-write, held-certify, Law, Frame, clear-held, held-kept}
 use Rattle.reach.proofs.Turns.{MayBegin, MayRead, MayWrite, MayCertify, MayCommit}
-use Rattle.reach.proofs.Changes.{uncertified, begin-clear, read-mine, read-held, write-mine, write-held, write-holds, write-pair, certify-held, certify-read, certify-signalled, aborted-pair}
+use Rattle.reach.proofs.Changes.{uncertified, begin-clear, read-mine, read-held, write-mine, write-held, write-holds, certify-held, certify-read, certify-signalled}
 use Rattle.serial.specs.Demand.{Event, wrote, Row, row, table, answer}
 use Rattle.serial.proofs.Past.{Past, shown, alone, Repeats}
 
@@ -42,7 +41,7 @@ Vouches h p (e ∷ own) = (wrote e ≡ false → Vouched h p own e) × Vouches h
 
 -- all that the transaction at p has done
 pub record Told (h : House) (p : ℕ) (own : Past) : Type 0 where
-  pub writes : (i : ℕ) → i < 64 → (r : Row) → shown own i r ≡ cond (held (cellAt (h .cells) p i)) (itemAt (h .items) i .pending, r .1 + 1) r
+  pub writes : (i : ℕ) → i < 64 → (r : Row) → shown own i r ≡ cond (held (cellAt (h .cells) p i)) (pendingAt (h .pending) i, r .1 + 1) r
   pub reads : Vouches h p own
 
 -- THE OTHERS: what is told of a transaction stays so when another one changes the house
@@ -69,7 +68,7 @@ module _ {h h′ : House} {me : ℕ} (L : Law h) (F : Frame h h′ me) (p : ℕ)
       record {
         writes = λ i a r.
             k .writes i a r
-            ∙ elim (is (held (cellAt (h .cells) p i))) [ inl g ↦ rw (held-kept L F p i b a n, F .item p i b a n g) | inr g ↦ rw (held-kept L F p i b a n, g) ];
+            ∙ elim (is (held (cellAt (h .cells) p i))) [ inl g ↦ rw (held-kept L F p i b a n, F .item p i b a n g .1) | inr g ↦ rw (held-kept L F p i b a n, g) ];
         reads = vouches-kept own (k .reads);
       }
 
@@ -101,7 +100,7 @@ begin-told L K = record { writes = λ i a r. rw (clear-held _ (begin-clear L K i
 -- Read
 module _ {h : House} {me : ℕ} (L : Law h) (q : Request) (op : q .operation ≡ read) (K : MayRead h me (q .item)) (own : Past) (k : Told h me own) where
   -- what is answered is what the transaction alone would read
-  read-answer : shown own (q .item) (row (itemAt (h .items) (q .item))) ≡ answer (q, replied q (readAnswer (h .cells) (itemAt (h .items) (q .item)) me (q .item)))
+  read-answer : shown own (q .item) (row (itemAt (h .items) (q .item))) ≡ answer (q, replied q (readFor h me (q .item)))
   unfolding held holds readAnswer grown
   read-answer =
       let x = itemAt (h .items) (q .item) in
@@ -111,61 +110,55 @@ module _ {h : House} {me : ℕ} (L : Law h) (q : Request) (op : q .operation ≡
         | inr w ↦ rw (w, uncertified L (K .place) (K .active) (q .item) (K .row))
       ]
 
-  same-items : (j : ℕ) → itemAt (readBy h me (q .item) .items) j ≡ itemAt (h .items) j
-  unfolding readBy
-  same-items j = refl
-
-  pub read-told : Told (readBy h me (q .item)) me ((q, replied q (readAnswer (h .cells) (itemAt (h .items) (q .item)) me (q .item))) ∷ own)
-  unfolding shown
+  pub read-told : Told (readBy h me (q .item)) me ((q, replied q (readFor h me (q .item))) ∷ own)
+  unfolding readBy shown
   read-told =
       record {
-        writes = λ j a r. rw (op, read-held L K j a, same-items j) (k .writes j a r);
+        writes = λ j a r. rw (op, read-held L K j a) (k .writes j a r);
         reads = (
           (λ o.
               record {
                 item = K .row;
                 locked = read-mine L K Read (q .item) (K .row) ∙ rw (eq-eqb (q .item) (q .item) refl);
-                stands = λ s. rw (same-items (q .item)) read-answer;
+                stands = λ s. read-answer;
               }),
           vouches-mine h (readBy h me (q .item)) me
               (λ j a r. read-mine L K Read j a ∙ elim (is (eqb j (q .item))) [ inl e ↦ rw e | inr e ↦ rw e r ])
-              (λ j a. read-mine L K Signalled j a) (λ j a. ap row (same-items j)) own (k .reads),
+              (λ j a. read-mine L K Signalled j a) (λ j a. refl) own (k .reads),
         );
       }
 
 -- Write
 module _ {h : House} {me : ℕ} (L : Law h) (q : Request) (op : q .operation ≡ write) (K : MayWrite h me (q .item)) (own : Past) (k : Told h me own) where
-  write-shown : (j : ℕ) → j < 64 → (r : Row) → shown ((q, replied q Done) ∷ own) j r ≡ cond (held (cellAt (writtenBy h me (q .item) (q .value) .cells) me j)) (itemAt (writtenBy h me (q .item) (q .value) .items) j .pending, r .1 + 1) r
+  write-shown : (j : ℕ) → j < 64 → (r : Row) → shown ((q, replied q Done) ∷ own) j r ≡ cond (held (cellAt (writtenBy h me (q .item) (q .value) .cells) me j)) (pendingAt (writtenBy h me (q .item) (q .value) .pending) j, r .1 + 1) r
   unfolding shown
   write-shown j a r =
       rw op
       (elim (same j (q .item)) [
-        | inl d ↦ rw (d, eq-eqb (q .item) (q .item) refl, write-holds (q .value) L K, written-item (L .sizes) me (q .item) (q .value) (K .row))
-        | inr n ↦ rw (ne-eqb (q .item) j (λ d. n (sym d)), write-held (q .value) L K j a n, written-item-other h me (q .item) (q .value) j n) (k .writes j a r)
+        | inl d ↦ rw (d, eq-eqb (q .item) (q .item) refl, write-holds (q .value) L K, written-pending (L .sizes) me (q .item) (q .value) (K .row))
+        | inr n ↦ rw (ne-eqb (q .item) j (λ d. n (sym d)), write-held (q .value) L K j a n, written-pending-other h me (q .item) (q .value) j n) (k .writes j a r)
       ])
 
   pub write-told : Told (writtenBy h me (q .item) (q .value)) me ((q, replied q Done) ∷ own)
+  unfolding writtenBy
   write-told =
       let v = q .value in
       record {
         writes = write-shown;
         reads = (
           (λ o. clash (rw op) o),
-          vouches-mine h (writtenBy h me (q .item) (q .value)) me (λ j a r. write-mine v L K Read j a ∙ r) (λ j a. write-mine v L K Signalled j a) (λ j a. write-pair v L K j) own (k .reads),
+          vouches-mine h (writtenBy h me (q .item) (q .value)) me (λ j a r. write-mine v L K Read j a ∙ r) (λ j a. write-mine v L K Signalled j a) (λ j a. refl) own (k .reads),
         );
       }
 
 -- Certify
 module _ {h : House} {me : ℕ} (L : Law h) (K : MayCertify h me) (own : Past) (k : Told h me own) where
-  items-same : (j : ℕ) → itemAt (certifiedBy h me .items) j ≡ itemAt (h .items) j
-  unfolding certifiedBy
-  items-same j = refl
-
   pub certify-told : Told (certifiedBy h me) me own
+  unfolding certifiedBy
   certify-told =
       record {
-        writes = λ i a r. k .writes i a r ∙ rw (certify-held L K i a, items-same i);
-        reads = vouches-mine h (certifiedBy h me) me (λ i a r. certify-read L K i a ∙ r) (certify-signalled L K) (λ i a. ap row (items-same i)) own (k .reads);
+        writes = λ i a r. k .writes i a r ∙ rw (certify-held L K i a);
+        reads = vouches-mine h (certifiedBy h me) me (λ i a r. certify-read L K i a ∙ r) (certify-signalled L K) (λ i a. refl) own (k .reads);
       }
 
 -- THE TABLE of committed pairs: a commit changes it as the transaction alone does, all else leaves it
@@ -180,11 +173,15 @@ read-table h me i = refl
 
 pub write-table : (h : House) (me i v : ℕ) → table (writtenBy h me i v) ≡ table h
 unfolding writtenBy
-write-table h me i v = map-set-same row (h .items) i _ blank refl
+write-table h me i v = refl
 
 pub certify-table : (h : House) (me : ℕ) → table (certifiedBy h me) ≡ table h
 unfolding certifiedBy
 certify-table h me = refl
+
+pub abort-table : (h : House) (me : ℕ) → table (abortedBy h me) ≡ table h
+unfolding left
+abort-table h me = refl
 
 -- a change of each item, seen in the table
 map-mapFrom : (k : ℕ) (f : ℕ → Item → Item) (g : ℕ → Row → Row) (l : List Item) → ((i : ℕ) → i < length l → row (f (k + i) (getD l i blank)) ≡ g (k + i) (row (getD l i blank))) → map row (mapFrom k f l) ≡ mapFrom k g (map row l)
@@ -192,18 +189,9 @@ unfolding mapFrom
 map-mapFrom k f g [] e = refl
 map-mapFrom k f g (x ∷ l) e = ap₂ _∷_ (rw add-zero at (e 0 (omega arith))) (map-mapFrom (suc k) f g l (λ i a. rw (suc-add k i, ← add-suc k i) (e (suc i) (omega arith))))
 
-map-mapFrom-same : (k : ℕ) (f : ℕ → Item → Item) (l : List Item) → ((i : ℕ) (x : Item) → row (f i x) ≡ row x) → map row (mapFrom k f l) ≡ map row l
-unfolding mapFrom
-map-mapFrom-same k f [] e = refl
-map-mapFrom-same k f (x ∷ l) e = ap₂ _∷_ (e k x) (map-mapFrom-same (suc k) f l e)
-
-pub abort-table : (h : House) (me : ℕ) → table (left (abortedItem (h .cells) me) h me) ≡ table h
-unfolding left
-abort-table h me = map-mapFrom-same 0 (abortedItem (h .cells) me) (h .items) (aborted-pair (h .cells) me)
-
 module _ {h : House} {me : ℕ} (L : Law h) (K : MayCommit h me) (own : Past) (k : Told h me own) where
   -- committed, an item shows what the transaction alone shows at its end
-  committed-shown : (i : ℕ) → i < 64 → row (committedItem (h .cells) me i (itemAt (h .items) i)) ≡ shown own i (row (itemAt (h .items) i))
+  committed-shown : (i : ℕ) → i < 64 → row (committedItem (h .cells) (h .pending) me i (itemAt (h .items) i)) ≡ shown own i (row (itemAt (h .items) i))
   unfolding committedItem holds held grown
   committed-shown i a =
       let x = itemAt (h .items) i in
@@ -214,9 +202,9 @@ module _ {h : House} {me : ℕ} (L : Law h) (K : MayCommit h me) (own : Past) (k
         | inr y ↦ rw y (sym (k .writes i a (row x) ∙ rw (none, y)))
       ]
 
-  pub commit-table : table (left (committedItem (h .cells) me) h me) ≡ alone own (table h)
-  unfolding left alone
-  commit-table = map-mapFrom 0 (committedItem (h .cells) me) (shown own) (h .items) (λ i a. rw zero-add (committed-shown i (let n = L .sizes .items in omega arith)))
+  pub commit-table : table (committedBy h me) ≡ alone own (table h)
+  unfolding alone
+  commit-table = map-mapFrom 0 (committedItem (h .cells) (h .pending) me) (shown own) (h .items) (λ i a. rw zero-add (committed-shown i (let n = L .sizes .items in omega arith)))
 
 -- at a commit no cell is signalled, so every read comes out the same
 repeats : (h : House) (me : ℕ) → isSignalled (h .cells) me ≡ false → (own : Past) → Vouches h me own → Repeats (table h) own

@@ -21,6 +21,7 @@ use Rattle.desk.proofs.Laws.{length-wired}
 use Rattle.dialogue.specs.Dialogue.{announced, refusal}
 use Rattle.dialogue.specs.Pieces.{runOf, programmed, joined}
 use Rattle.dialogue.proofs.Pieces.{in-pieces}
+use Rattle.reach.proofs.Opened.{opening-cases}
 use Rattle.serial.specs.Demand.{Event, trace, row, work, commits, answers, serially, table, Demand3}
 use Rattle.serial.proofs.Demand.{demand}
 use Rattle.serial_bytes.specs.Bytes.{exchanged}
@@ -39,9 +40,12 @@ unfolding mapFrom rowAt
 rows-blank levels k [] = refl
 rows-blank levels k (x ∷ xs) = ap (λ t. (0, 0) ∷ t) (rows-blank levels (suc k) xs)
 
+opened-blank : (levels : List ℕ) → table (opened levels) ≡ blankTable
+unfolding opened rows
+opened-blank levels = rows-blank levels 0 (replicate 64 blank)
+
 opening-blank : (levels : List ℕ) → table (opening levels .house) ≡ blankTable
-unfolding opening opened rows
-opening-blank levels = rows-blank _ 0 (replicate 64 blank)
+opening-blank levels = opening-cases (λ h. table h ≡ blankTable) levels (λ K. opened-blank levels) (opened-blank [])
 
 -- NOBODY COMMITTED
 

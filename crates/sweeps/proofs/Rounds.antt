@@ -1,10 +1,10 @@
--- What a sweep does to the one cell of a round, and to all others.
+-- What a sweep does to the one cell or item of a round, and to all others.
 -- Assumes nothing.
 use Prim.Native.Nat.{ℕ, _+_, _*_, _/_, _%_, _<_, _≤_}
 use native.Mathlib.Omega.{arith}
 use mathlib.Core.Path.{_≡_, refl, sym}
 use mathlib.Core.Logic.{_≢_, inl, inr}
-use mathlib.Core.Bool.{Bool, true, false, _||_}
+use mathlib.Core.Bool.{true, false, _||_, cond}
 use mathlib.Core.List.{List}
 use lib.ListN.{getD}
 use lib.Dec.{ltb}
@@ -13,13 +13,12 @@ use Rattle.house.specs.declared.Item.{Item}
 use Rattle.house.specs.declared.Mark.the-variants.{Write, Certify}
 use Rattle.house.specs.Search.{any}
 use Rattle.house.specs.Cell.{has, cellAt, holds, mapCells}
-use Rattle.house.specs.Rules.{certifiedCell, clearedCell, committedItem, abortedItem}
+use Rattle.house.specs.Rules.{convertedCell, certifiedCell, clearedCell, committedItem, droppedPending, grown}
 use Rattle.house.proofs.Tests.{is, or-false}
 use Rattle.house.proofs.Searches.{any-none}
 use Rattle.house.proofs.Lists.{mapFrom-kept, Sofar, sofar-skip, sofar-map, sofar-still}
 use Rattle.house.proofs.Cells.{place-of, item-of}
-use Rattle.ruling.specs.Ruling.{endedItem}
-use Rattle.sweeps.specs.Sweep.{ofHouse, swept, convertedCell, convertedOn}
+use Rattle.sweeps.specs.Sweep.{ofHouse, swept, convertedOn}
 
 -- the n-th cell through f, if it is of a place that a house has
 abbrev pub cellwise : (ℕ → ℕ → ℕ → ℕ) → ℕ → ℕ → ℕ
@@ -66,7 +65,7 @@ module _ (old : List ℕ) (me i : ℕ) (b : i < 64) {cells : List ℕ} (s : Sofa
   still = sofar-still _ _ _ _ s (me * 64 + i) (omega arith)
 
   written-on : (n x : ℕ) → has Write (getD cells (me * 64 + i) 0) ≡ true → n % 64 ≡ i → cellwise (convertedOn me i) n x ≡ cellwise (certifiedCell old me) n x
-  unfolding ofHouse convertedOn convertedCell certifiedCell holds cellAt
+  unfolding ofHouse convertedOn certifiedCell holds cellAt
   written-on n x w e = let here : has Write (getD old (me * 64 + i) 0) ≡ true = rw still at w in rw (e, eq-eqb i i refl, here)
 
   unwritten : (n x : ℕ) → has Write (getD cells (me * 64 + i) 0) ≡ false → n % 64 ≡ i → cellwise (certifiedCell old me) n x ≡ x
@@ -89,9 +88,22 @@ pub none-written : (old : List ℕ) (me : ℕ) → any (holds old Write me) 0 64
 unfolding swept mapCells certifiedCell
 none-written old me e = sym (mapFrom-kept 0 _ old (λ n x h. kept (certifiedCell old me) n x (rw (any-none (holds old Write me) 0 64 e (n % 64) (omega arith) (omega arith)))))
 
--- Ending: a row that was not written stays
+-- Ending: round i handles item i
 
-pub ended-unwritten : (commits : Bool) (cells : List ℕ) (me i : ℕ) (x : Item) → (holds cells Write me i || holds cells Certify me i) ≡ false → endedItem commits cells me i x ≡ x
-unfolding committedItem abortedItem
-ended-unwritten true cells me i x e = rw (or-false (holds cells Write me i) (holds cells Certify me i) e .1)
-ended-unwritten false cells me i x e = rw e
+pub committed-mine : (cells pending : List ℕ) (me i : ℕ) (x : Item) → has Certify (getD cells (me * 64 + i) 0) ≡ true → record { level = x .level; value = getD pending i 0; version = grown (x .version) } ≡ committedItem cells pending me i x
+unfolding committedItem holds cellAt
+committed-mine cells pending me i x e = rw e
+
+pub uncommitted : (cells pending : List ℕ) (me i : ℕ) (x : Item) → has Certify (getD cells (me * 64 + i) 0) ≡ false → committedItem cells pending me i x ≡ x
+unfolding committedItem holds cellAt
+uncommitted cells pending me i x e = rw e
+
+pub dropped-mine : (cells : List ℕ) (me i v : ℕ) → cond (has Write (getD cells (me * 64 + i) 0) || has Certify (getD cells (me * 64 + i) 0)) 0 v ≡ droppedPending cells me i v
+unfolding droppedPending holds cellAt
+dropped-mine cells me i v = refl
+
+-- who has claimed nothing holds neither write nor certify on an item
+pub unclaimed : (cells : List ℕ) (me : ℕ) → (any (holds cells Write me) 0 64 || any (holds cells Certify me) 0 64) ≡ false → (i : ℕ) → i < 64 → (holds cells Write me i ≡ false) × (holds cells Certify me i ≡ false)
+unclaimed cells me e i b =
+    let none = or-false (any (holds cells Write me) 0 64) (any (holds cells Certify me) 0 64) e in
+    (any-none (holds cells Write me) 0 64 (none .0) i (omega arith) (omega arith), any-none (holds cells Certify me) 0 64 (none .1) i (omega arith) (omega arith))

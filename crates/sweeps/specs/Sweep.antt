@@ -2,12 +2,11 @@
 -- proofs/Whole.antt).
 -- Assumes nothing.
 use Prim.Native.Nat.{ℕ}
-use mathlib.Core.Bool.{cond, _&&_}
+use mathlib.Core.Bool.{cond}
 use mathlib.Core.List.{List}
 use lib.Dec.{eqb, ltb}
-use Rattle.house.specs.declared.Mark.the-variants.{Read, Write, Certify, Signalled}
-use Rattle.house.specs.Cell.{has, marked, unmarked, mapCells}
-use Rattle.house.specs.House.{above, levelOf}
+use Rattle.house.specs.Cell.{mapCells}
+use Rattle.house.specs.Rules.{convertedCell}
 
 -- a cell of the 32 places through f, any other as it is
 unfoldable pub ofHouse : (ℕ → ℕ → ℕ → ℕ) → ℕ → ℕ → ℕ → ℕ
@@ -16,13 +15,6 @@ ofHouse f p i c = cond (ltb p 32) (f p i c) c
 unfoldable pub swept : (ℕ → ℕ → ℕ → ℕ) → List ℕ → List ℕ
 swept f cells = mapCells (ofHouse f) cells
 
--- the cell of place p on an item that `me` has written, once `me` has certified
-unfoldable pub convertedCell : ℕ → ℕ → ℕ → ℕ
-convertedCell me p c =
-    cond (eqb p me) (marked Certify (unmarked Write c))
-    (cond (above (levelOf p) (levelOf me) && has Read c) (marked Signalled c)
-    c)
-
--- the same over all cells, of item i alone
+-- all cells of item i, which `me` has written, once `me` has certified
 unfoldable pub convertedOn : ℕ → ℕ → ℕ → ℕ → ℕ → ℕ
 convertedOn me i p j c = cond (eqb j i) (convertedCell me p c) c

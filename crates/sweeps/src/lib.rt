@@ -1,4 +1,5 @@
-// What a change does to the cells, where they lie, and to the items: one mark, and three sweeps, for the transaction at place `me`.
+// What a change does to the cells, where they lie, and to the two versions of the items: one mark, and four sweeps, for the
+// transaction at place `me`.
 // Any number names a place and an item: it is taken modulo 32 and 64, as the desk takes the level and the item of a request.
 
 ghost use mathlib.Core.Path.{_≡_};
@@ -8,10 +9,9 @@ ghost use lib.ListN.{getD};
 ghost use Rattle.house.specs.declared.Mark.the-variants.{Write, Certify};
 ghost use Rattle.house.specs.Search.{any, mapFrom};
 ghost use Rattle.house.specs.Cell.{has, withMark, holds};
-ghost use Rattle.house.specs.House.{above, levelOf, withPending};
-ghost use Rattle.house.specs.Rules.{certifiedCell, clearedCell, grown};
-ghost use Rattle.ruling.specs.Ruling.{endedItem};
-ghost use Rattle.sweeps.specs.Sweep.{swept, convertedCell, convertedOn};
+ghost use Rattle.house.specs.House.{above, levelOf};
+ghost use Rattle.house.specs.Rules.{signalledCell, convertedCell, certifiedCell, clearedCell, committedItem, droppedPending, grown};
+ghost use Rattle.sweeps.specs.Sweep.{swept, convertedOn};
 use house::Item;
 use house::Mark;
 use parts::grow;
@@ -36,16 +36,22 @@ fn is_above(p: usize, me: usize) -> bool
     (b <= a) & (a != b)
 }
 
+fn signal(me: usize, p: usize, c: u8) -> u8
+    ensures { λ r. ⌜ r ≡ signalledCell me p c ⌝ }
+{
+    if is_above(p, me) & has_mark(Mark::Read, c) {
+        return with_mark(Mark::Signalled, c);
+    }
+    c
+}
+
 fn convert(me: usize, p: usize, c: u8) -> u8
     ensures { λ r. ⌜ r ≡ convertedCell me p c ⌝ }
 {
     if p == me {
         return with_mark(Mark::Certify, without_mark(Mark::Write, c));
     }
-    if is_above(p, me) & has_mark(Mark::Read, c) {
-        return with_mark(Mark::Signalled, c);
-    }
-    c
+    signal(me, p, c)
 }
 
 fn certify_item(cells: &mut [u8; 2048], me: usize, i: usize)
@@ -60,11 +66,11 @@ fn certify_item(cells: &mut [u8; 2048], me: usize, i: usize)
 }
 
 // The cell at n is the place's own.
-fn is_written(cells: &[u8; 2048], n: usize) -> bool
+fn is_marked(cells: &[u8; 2048], m: Mark, n: usize) -> bool
     requires { ⌜ n < 2048 ⌝ }
-    ensures { λ r. ⌜ r ≡ has Write (getD (now (cells .entry)) n 0) ⌝ }
+    ensures { λ r. ⌜ r ≡ has m (getD (now (cells .entry)) n 0) ⌝ }
 {
-    has_mark(Mark::Write, cells[n])
+    has_mark(m, cells[n])
 }
 
 // Who has written nothing converts nothing.
@@ -76,7 +82,7 @@ pub fn certify_cells(cells: &mut [u8; 2048], me: usize)
         return;
     }
     for i in 0..64 {
-        if is_written(cells, here * 64 + i) {
+        if is_marked(cells, Mark::Write, here * 64 + i) {
             certify_item(cells, here, i);
         }
     }
@@ -91,54 +97,6 @@ pub fn clear_cells(cells: &mut [u8; 2048], me: usize)
     }
 }
 
-fn commit_item(c: u8, x: Item) -> Item
-    ensures { λ r. ⌜ r ≡ cond (has Certify c) (record { level = x .level; value = x .pending; version = grown (x .version); pending = 0 }) x ⌝ }
-{
-    if has_mark(Mark::Certify, c) {
-        return Item {
-            level: x.level,
-            value: x.pending,
-            version: grow(x.version),
-            pending: 0,
-        };
-    }
-    x
-}
-
-fn abort_item(c: u8, x: Item) -> Item
-    ensures { λ r. ⌜ r ≡ cond (has Write c || has Certify c) (withPending x 0) x ⌝ }
-{
-    if has_mark(Mark::Write, c) | has_mark(Mark::Certify, c) {
-        return Item {
-            level: x.level,
-            value: x.value,
-            version: x.version,
-            pending: 0,
-        };
-    }
-    x
-}
-
-fn end_item(cells: &[u8; 2048], me: usize, commits: bool, i: usize, x: Item) -> Item
-    requires { ⌜ (me < 32) × (i < 64) ⌝ }
-    ensures { λ r. ⌜ r ≡ endedItem commits (now (cells .entry)) me i x ⌝ }
-{
-    let c = cells[me * 64 + i];
-    if commits {
-        commit_item(c, x)
-    } else {
-        abort_item(c, x)
-    }
-}
-
-fn has_written(cells: &[u8; 2048], me: usize, i: usize) -> bool
-    requires { ⌜ (me < 32) × (i < 64) ⌝ }
-    ensures { λ r. ⌜ r ≡ (holds (now (cells .entry)) Write me i || holds (now (cells .entry)) Certify me i) ⌝ }
-{
-    let c = cells[me * 64 + i];
-    has_mark(Mark::Write, c) | has_mark(Mark::Certify, c)
-}
-
 // The transaction holds write or certify on some item.
 pub fn has_claimed(cells: &[u8; 2048], me: usize) -> bool
     ensures { λ r. ⌜ r ≡ (any (holds (now (cells .entry)) Write (me % 32)) 0 64 || any (holds (now (cells .entry)) Certify (me % 32)) 0 64) ⌝ }
@@ -146,17 +104,54 @@ pub fn has_claimed(cells: &[u8; 2048], me: usize) -> bool
     holds_any(cells, Mark::Write, me) | holds_any(cells, Mark::Certify, me)
 }
 
-// Most rows stay: only a written one is stored.
-pub fn end_items(items: [Item; 64], cells: &[u8; 2048], me: usize, commits: bool) -> [Item; 64]
-    ensures { λ r. ⌜ r ≡ mapFrom 0 (endedItem commits (now (cells .entry)) (me % 32)) items ⌝ }
+fn commit_item(x: Item, pending: u32) -> Item
+    ensures { λ r. ⌜ r ≡ record { level = x .level; value = pending; version = grown (x .version) } ⌝ }
+{
+    Item {
+        level: x.level,
+        value: pending,
+        version: grow(x.version),
+    }
+}
+
+// Most rows stay: only a certified one is stored.
+pub fn commit_items<'a>(
+    items: [Item; 64],
+    pending: &'a [u32; 64],
+    cells: &'a [u8; 2048],
+    me: usize,
+) -> [Item; 64]
+    ensures { λ r. ⌜ r ≡ mapFrom 0 (committedItem (now (cells .entry)) (now (pending .entry)) (me % 32)) items ⌝ }
 {
     let here = me % 32;
     let mut out = items;
     for i in 0..64 {
-        if has_written(cells, here, i) {
+        if is_marked(cells, Mark::Certify, here * 64 + i) {
             let x = out[i];
-            out[i] = end_item(cells, here, commits, i, x);
+            out[i] = commit_item(x, pending[i]);
         }
+    }
+    out
+}
+
+fn drop_value(c: u8, v: u32) -> u32
+    ensures { λ r. ⌜ r ≡ cond (has Write c || has Certify c) 0 v ⌝ }
+{
+    if has_mark(Mark::Write, c) | has_mark(Mark::Certify, c) {
+        0
+    } else {
+        v
+    }
+}
+
+pub fn drop_pending(pending: [u32; 64], cells: &[u8; 2048], me: usize) -> [u32; 64]
+    ensures { λ r. ⌜ r ≡ mapFrom 0 (droppedPending (now (cells .entry)) (me % 32)) pending ⌝ }
+{
+    let here = me % 32;
+    let mut out = pending;
+    for i in 0..64 {
+        let v = out[i];
+        out[i] = drop_value(cells[here * 64 + i], v);
     }
     out
 }

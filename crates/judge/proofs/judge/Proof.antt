@@ -16,6 +16,16 @@ formed c =
       unused = sym (c .before .unused-set .ensures) ∙ c .if3 .left;
     }
 
+-- where they were passed, seen from a begin, from the lookup, and from the place that it found
+abbrev begins : tie.Then4 → tie.Else3
+begins c = c .before .before .before .before
+
+abbrev looks : tie.Else4 → tie.Else3
+looks c = c .before .before .before .before
+
+abbrev finds : tie.After-known-told → tie.Else4
+finds c = c .before .before .before .before
+
 -- the place found is one of the eight
 near : (c : tie.After-known-told) → c .before .k .given .0 .0 < 8
 near c = find-below _ 0 8 _ (sym (c .before .before .before .lookup .ensures) ∙ c .before .k .given .1)
@@ -27,7 +37,7 @@ refuse-requires : tie.Need-refuse-requires
 refuse-requires c κs = search needs
 
 returns : tie.Need-returns
-returns c = rw (c .refuse .ensures) (judged-3 _ _ _ _ _ _ (sym (c .before .before .no-operation .ensures) ∙ c .before .if1 .taken))
+returns c = rw (c .refuse .ensures) (judged-3 _ _ _ (sym (c .before .before .no-operation .ensures) ∙ c .before .if1 .taken))
 
 no-level-requires : tie.Need-no-level-requires
 no-level-requires c κs = search needs
@@ -36,7 +46,7 @@ refuse-requires-2 : tie.Need-refuse-requires-2
 refuse-requires-2 c κs = search needs
 
 returns-2 : tie.Need-returns-2
-returns-2 c = rw (c .refuse2 .ensures) (judged-4 _ _ _ _ _ _ (sym (c .before .before .before .before .no-operation .ensures) ∙ c .before .before .before .if1 .left) (sym (c .before .before .no-level .ensures) ∙ c .before .if2 .taken))
+returns-2 c = rw (c .refuse2 .ensures) (judged-4 _ _ _ (sym (c .before .before .before .before .no-operation .ensures) ∙ c .before .before .before .if1 .left) (sym (c .before .before .no-level .ensures) ∙ c .before .if2 .taken))
 
 unused-set-requires : tie.Need-unused-set-requires
 unused-set-requires c κs = search needs
@@ -45,16 +55,16 @@ refuse-requires-3 : tie.Need-refuse-requires-3
 refuse-requires-3 c κs = search needs
 
 returns-3 : tie.Need-returns-3
-returns-3 c = rw (c .refuse3 .ensures) (judged-5 _ _ _ _ _ _ (sym (c .before .before .before .before .before .before .no-operation .ensures) ∙ c .before .before .before .before .before .if1 .left) (sym (c .before .before .before .before .no-level .ensures) ∙ c .before .before .before .if2 .left) (sym (c .before .before .unused-set .ensures) ∙ c .before .if3 .taken))
+returns-3 c = rw (c .refuse3 .ensures) (judged-5 _ _ _ (sym (c .before .before .before .before .before .before .no-operation .ensures) ∙ c .before .before .before .before .before .if1 .left) (sym (c .before .before .before .before .no-level .ensures) ∙ c .before .before .before .if2 .left) (sym (c .before .before .unused-set .ensures) ∙ c .before .if3 .taken))
 
 cast-level : tie.Need-cast-level
 cast-level c = search needs
 
 judge-begin-requires : tie.Need-judge-begin-requires
-judge-begin-requires c κs = level-below _ (formed (c .before .before .before))
+judge-begin-requires c κs = level-below _ (formed (begins c))
 
 returns-4 : tie.Need-returns-4
-returns-4 c = rw (c .judge-begin .ensures) (judged-begin _ _ _ _ _ _ (formed (c .before .before .before .before)) (c .before .if4 .taken))
+returns-4 c = rw (c .judge-begin .ensures) (judged-begin _ _ _ (formed (begins (c .before))) (c .before .if4 .taken))
 
 lookup-requires : tie.Need-lookup-requires
 lookup-requires c κs = search needs
@@ -69,25 +79,28 @@ refuse-requires-4 : tie.Need-refuse-requires-4
 refuse-requires-4 c κs = search needs
 
 returns-5 : tie.Need-returns-5
-returns-5 c = rw (c .refuse4 .ensures) (judged-6 _ _ _ _ _ _ (formed (c .before .before .before .before .before .before .before)) (c .before .before .before .before .if4 .left) (sym (c .before .before .before .lookup .ensures) ∙ c .before .enum-told .given .1))
+returns-5 c = let l = c .before .before .before in rw (c .refuse4 .ensures) (judged-6 _ _ _ (formed (looks (l .before))) (l .before .if4 .left) (sym (l .lookup .ensures) ∙ c .before .enum-told .given .1))
 
-mul-place : tie.Need-mul-place
-mul-place c = omega (arith, near c)
+mul-seat : tie.Need-mul-seat
+mul-seat c = omega (arith, near c)
 
-array-copy-out-place : tie.Need-array-copy-out-place
-array-copy-out-place c = omega (arith, near c)
+array-copy-out-seat : tie.Need-array-copy-out-seat
+array-copy-out-seat c = omega (arith, near c)
 
-mul-judge-known : tie.Need-mul-judge-known
-mul-judge-known c = omega (arith, level-below _ (formed (c .before .before .before .before .before .before .before .before)))
+mul-t17 : tie.Need-mul-t17
+mul-t17 c = omega (arith, level-below _ (formed (looks (finds (c .before .before)))))
 
-add-judge-known : tie.Need-add-judge-known
-add-judge-known c = omega (arith, near (c .before), level-below _ (formed (c .before .before .before .before .before .before .before .before)))
+add-t21 : tie.Need-add-t21
+add-t21 c = omega (arith, near (c .before .before), level-below _ (formed (looks (finds (c .before .before)))))
 
 judge-known-requires : tie.Need-judge-known-requires
-judge-known-requires c κs = omega (arith, near (c .before), level-below _ (formed (c .before .before .before .before .before .before .before .before)))
+judge-known-requires c κs = omega (arith, near (c .before .before), level-below _ (formed (looks (finds (c .before .before)))))
 
 returns-6 : tie.Need-returns-6
-returns-6 c = rw (c .judge-known .ensures) (judged-known _ _ _ _ _ _ (formed (c .before .before .before .before .before .before .before .before .before)) (c .before .before .before .before .before .before .if4 .left) _ (sym (c .before .before .before .before .before .lookup .ensures) ∙ c .before .before .before .k .given .1))
+returns-6 c =
+    let k = c .before .before .before in
+    rw (c .judge-known .ensures)
+    (judged-known _ _ _ (formed (looks (finds k))) (finds k .if4 .left) _ (sym (k .before .before .before .lookup .ensures) ∙ k .before .k .given .1))
 
 pub judge-spec : {M : Type 1} → statement M
 judge-spec =
@@ -110,9 +123,9 @@ judge-spec =
     enum-told
     refuse-requires-4
     returns-5
-    mul-place
-    array-copy-out-place
-    mul-judge-known
-    add-judge-known
+    mul-seat
+    array-copy-out-seat
+    mul-t17
+    add-t21
     judge-known-requires
     returns-6)

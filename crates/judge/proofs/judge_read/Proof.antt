@@ -66,7 +66,7 @@ allow-requires c κs = search needs
 
 returns-6 : tie.Need-returns-6
 unfolding readRuled
-returns-6 c = simp (readRuled, sym (c .before .before .before .before .before .before .before .before .before .before .before .lacks-item .ensures) ∙ c .before .before .before .before .before .before .before .before .before .before .if1 .left, sym (c .before .before .before .before .before .before .before .before .before .does-not-dominate .ensures) ∙ c .before .before .before .before .before .before .before .before .if2 .left, sym (c .before .before .before .before .before .before .before .is-signalled .ensures) ∙ c .before .before .before .before .before .before .if3 .left, sym (c .before .before .before .before .before .is-certified .ensures) ∙ c .before .before .before .before .if4 .left, sym (c .before .before .before .other-holds .ensures) ∙ c .before .before .if5 .left, c .before .answer-read .ensures, c .allow .ensures)
+returns-6 c = rw (readRuled, sym (c .before .before .before .before .before .before .before .before .before .before .before .lacks-item .ensures) ∙ c .before .before .before .before .before .before .before .before .before .before .if1 .left, sym (c .before .before .before .before .before .before .before .before .before .does-not-dominate .ensures) ∙ c .before .before .before .before .before .before .before .before .if2 .left, sym (c .before .before .before .before .before .before .before .is-signalled .ensures) ∙ c .before .before .before .before .before .before .if3 .left, sym (c .before .before .before .before .before .is-certified .ensures) ∙ c .before .before .before .before .if4 .left, sym (c .before .before .before .other-holds .ensures) ∙ c .before .before .if5 .left, c .allow .ensures, c .before .answer-read .ensures)
 
 pub judge-read-spec : {M : Type 1} → statement M
 judge-read-spec =

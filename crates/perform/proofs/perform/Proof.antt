@@ -1,28 +1,24 @@
-use Prim.Native.Nat.{_<_}
+use Prim.Native.Nat.{_<_, _%_}
 use native.Mathlib.Nat.{mod-eq-of-lt}
 use native.Mathlib.Omega.{arith}
-use mathlib.Core.Bool.{true, false}
+use mathlib.Core.Bool.{true, false, _&&_, cond}
 use mathlib.Core.Logic.{⊎-elim}
-use mathlib.Core.Path.{_≡_, sym, ap, _∙_}
-use lib.ListN.{length}
+use mathlib.Core.Path.{_≡_, sym, ap, ap₂, _∙_}
 use borrow.Author.Tests.{ltb-true, not-true, not-false}
 use borrow.Author.Needs.{needs}
-use Rattle.house.proofs.Tests.{both-below}
+use Rattle.house.proofs.Tests.{both-below, cond-yes, cond-no}
 use Rattle.house.proofs.Lists.{length-mapped}
-use Rattle.house.specs.Rules.{begun, readBy, writtenBy, certifiedBy, left}
-use Rattle.house.specs.House.{withItems}
-use Rattle.house.specs.Search.{mapFrom}
-use Rattle.ruling.specs.Ruling.{fits, effect, effectIfFit, endedItem}
-use Rattle.sweeps.proofs.Whole.{swept-whole, none-claimed}
+use Rattle.house.specs.Rules.{begun, readBy, writtenBy, certifiedBy}
+use Rattle.house.specs.House.{Sizes, withItems, withPending, withPlace, withCells}
+use Rattle.house.specs.declared.House.{House}
+use Rattle.ruling.specs.Ruling.{fits, effect, effectIfFit}
+use Rattle.sweeps.proofs.Whole.{swept-whole, committed, dropped, ended-house}
 use Rattle.perform.proofs.perform.Statement.{statement}
 use Rattle.perform.proofs.perform.Tie as tie
 
--- the cells and the items are as many as their arrays have
-long : (c : tie.Start) → length (c .args .h .cells) ≡ 2048
-long c = search needs
-
-rows : (c : tie.Start) → length (c .args .h .items) ≡ 64
-rows c = search (needs, length-mapped)
+-- the lists are as long as the arrays
+sizes : (c : tie.Start) → Sizes (c .args .h)
+sizes c = record { items = search (needs, length-mapped); pending = search needs; places = search (needs, length-mapped); next = search needs; cells = search needs }
 
 unfit : (c : tie.Then1) → fits (c .before .before .args .change) ≡ false
 unfit c = sym (c .before .is-fit .ensures) ∙ not-true _ (c .if1 .taken)
@@ -51,15 +47,31 @@ certifies c = ltb-true _ _ (sym (ap fits (c .before .change4 .given .1)) ∙ fit
 ends : (c : tie.After-known-told5) → c .before .change5 .given .0 .0 < 32
 ends c = ltb-true _ _ (sym (ap fits (c .before .change5 .given .1)) ∙ fit (c .before .before .before))
 
--- the items at the end, whether any was claimed or none
-ended : (c : tie.Joined2) → c .if2 .h ≡ withItems (c .before .before .before .before .before .before .before .before .before .args .h) (mapFrom 0 (endedItem (c .before .before .before .before .before .change5 .given .0 .1 .0) (c .before .before .before .before .before .before .before .before .before .args .h .cells) (c .before .before .before .before .before .change5 .given .0 .0)) (c .before .before .before .before .before .before .before .before .before .args .h .items))
-ended c =
-    let h = c .before .before .before .before .before .before .before .before .before .args .h in
-    let me = mod-eq-of-lt (ends (c .before .before .before .before)) in
+-- AN END, seen from where its two tests have met
+
+abbrev house : tie.After-known-told5 → House
+house c = c .before .before .before .before .before .args .h
+
+abbrev ending : tie.Joined3 → tie.After-known-told5
+ending c = c .before .before .before .before .before
+
+items : (c : tie.Joined2) → let e = c .before .before .before .before in
+    c .if2 .h ≡ withItems (house e) (cond (c .before .has-claimed .result && e .before .change5 .given .0 .1 .0) (committed (house e) (e .before .change5 .given .0 .0 % 32)) (house e .items))
+items c =
+    let h = house (c .before .before .before .before) in
     ⊎-elim
-    (λ w. w .5 ∙ ap (withItems h) (rw me at (w .4 .ensures)))
-    (λ w. w .1 ∙ ap (withItems h) (none-claimed (c .before .before .before .before .before .change5 .given .0 .1 .0) _ _ _ (rw me at (sym (c .before .has-claimed .ensures) ∙ w .0 .left)) (rows (c .before .before .before .before .before .before .before .before .before))))
+    (λ w. w .6 ∙ ap (withItems h) (w .5 .ensures ∙ sym (cond-yes _ _ (w .0 .taken))))
+    (λ w. w .1 ∙ ap (withItems h) (sym (cond-no _ _ (w .0 .left))))
     (c .if2 .came)
+
+pending : (c : tie.Joined3) → let g = c .before .if2 .h in
+    c .if3 .h ≡ withPending g (cond (c .before .before .has-claimed .result) (dropped g (ending c .before .change5 .given .0 .0 % 32)) (g .pending))
+pending c =
+    let g = c .before .if2 .h in
+    ⊎-elim
+    (λ w. w .5 ∙ ap (withPending g) (w .4 .ensures ∙ sym (cond-yes _ _ (w .0 .taken))))
+    (λ w. w .1 ∙ ap (withPending g) (sym (cond-no _ _ (w .0 .left))))
+    (c .if3 .came)
 
 is-fit-requires : tie.Need-is-fit-requires
 is-fit-requires c κs = search needs
@@ -83,8 +95,8 @@ element-copy-out-t c = let k = begins c in omega arith
 active-requires : tie.Need-active-requires
 active-requires c κs = search needs
 
-mul-t21 : tie.Need-mul-t21
-mul-t21 c = let k = begins (c .before .before) in omega arith
+mul-t23 : tie.Need-mul-t23
+mul-t23 c = let k = begins (c .before .before) in omega arith
 
 element-set-from-h : tie.Need-element-set-from-h
 element-set-from-h c = let k = begins (c .before .before) in omega arith
@@ -110,20 +122,11 @@ enum-known-change-3 c = search needs
 mark-cell-requires-2 : tie.Need-mark-cell-requires-2
 mark-cell-requires-2 c κs = search needs
 
-mul-row : tie.Need-mul-row
-mul-row c = let k = writes (c .before .before) in omega arith
+mul-h-2 : tie.Need-mul-h-2
+mul-h-2 c = let k = writes (c .before .before) in omega arith
 
-element-copy-out-row : tie.Need-element-copy-out-row
-element-copy-out-row c = let k = writes (c .before .before) in omega arith
-
-with-pending-requires : tie.Need-with-pending-requires
-with-pending-requires c κs = search needs
-
-mul-t36 : tie.Need-mul-t36
-mul-t36 c = let k = writes (c .before .before .before .before) in omega arith
-
-element-set-from-h-2 : tie.Need-element-set-from-h-2
-element-set-from-h-2 c = let k = writes (c .before .before .before .before) in omega arith
+element-write-h-2 : tie.Need-element-write-h-2
+element-write-h-2 c = let k = writes (c .before .before) in omega arith
 
 enum-known-change-4 : tie.Need-enum-known-change-4
 enum-known-change-4 c = search needs
@@ -140,11 +143,11 @@ element-copy-out-place c = let k = certifies (c .before .before) in omega arith
 certified-requires : tie.Need-certified-requires
 certified-requires c κs = search needs
 
-mul-t44 : tie.Need-mul-t44
-mul-t44 c = let k = certifies (c .before .before .before .before) in omega arith
+mul-t43 : tie.Need-mul-t43
+mul-t43 c = let k = certifies (c .before .before .before .before) in omega arith
 
-element-set-from-h-3 : tie.Need-element-set-from-h-3
-element-set-from-h-3 c = let k = certifies (c .before .before .before .before) in omega arith
+element-set-from-h-2 : tie.Need-element-set-from-h-2
+element-set-from-h-2 c = let k = certifies (c .before .before .before .before) in omega arith
 
 enum-known-change-5 : tie.Need-enum-known-change-5
 enum-known-change-5 c = search needs
@@ -152,8 +155,11 @@ enum-known-change-5 c = search needs
 has-claimed-requires : tie.Need-has-claimed-requires
 has-claimed-requires c κs = search needs
 
-end-items-requires : tie.Need-end-items-requires
-end-items-requires c κs = search needs
+commit-items-requires : tie.Need-commit-items-requires
+commit-items-requires c κs = search needs
+
+drop-pending-requires : tie.Need-drop-pending-requires
+drop-pending-requires c κs = search needs
 
 clear-cells-requires : tie.Need-clear-cells-requires
 clear-cells-requires c κs = search needs
@@ -161,11 +167,11 @@ clear-cells-requires c κs = search needs
 left-free-requires : tie.Need-left-free-requires
 left-free-requires c κs = search needs
 
-mul-t56 : tie.Need-mul-t56
-mul-t56 c = let k = ends (c .before .before .before .before .before .before .before) in omega arith
+mul-t57 : tie.Need-mul-t57
+mul-t57 c = let k = ends (ending (c .before .before .before)) in omega arith
 
-element-set-from-h-4 : tie.Need-element-set-from-h-4
-element-set-from-h-4 c = let k = ends (c .before .before .before .before .before .before .before) in omega arith
+element-set-from-h-3 : tie.Need-element-set-from-h-3
+element-set-from-h-3 c = let k = ends (ending (c .before .before .before)) in omega arith
 
 returns-2 : tie.Need-returns-2
 returns-2 c = rw (fitting (c .before .before), c .enum-told .given .1)
@@ -180,15 +186,18 @@ returns-4 c = rw (fitting (c .before .before .before .before .before), c .before
 
 returns-5 : tie.Need-returns-5
 unfolding writtenBy
-returns-5 c = rw (fitting (c .before .before .before .before .before .before .before), c .before .before .before .before .before .change3 .given .1, c .before .before .mark-cell2 .ensures, mod-eq-of-lt (writes (c .before .before .before .before) .0), mod-eq-of-lt (writes (c .before .before .before .before) .1), c .with-pending .ensures)
+returns-5 c = rw (fitting (c .before .before .before .before .before), c .before .before .before .change3 .given .1, c .mark-cell2 .ensures, mod-eq-of-lt (writes (c .before .before) .0), mod-eq-of-lt (writes (c .before .before) .1))
 
 returns-6 : tie.Need-returns-6
 unfolding certifiedBy
-returns-6 c = rw (fitting (c .before .before .before .before .before .before .before), c .before .before .before .before .before .change4 .given .1, c .before .before .certify-cells .ensures, mod-eq-of-lt (certifies (c .before .before .before .before)), swept-whole _ _ (long (c .before .before .before .before .before .before .before .before .before)), c .certified .ensures)
+returns-6 c = rw (fitting (c .before .before .before .before .before .before .before), c .before .before .before .before .before .change4 .given .1, c .before .before .certify-cells .ensures, mod-eq-of-lt (certifies (c .before .before .before .before)), swept-whole _ _ (sizes (c .before .before .before .before .before .before .before .before .before) .cells), c .certified .ensures)
 
 returns-7 : tie.Need-returns-7
-unfolding left
-returns-7 c = rw (fitting (c .before .before .before .before .before .before .before .before .before .before), c .before .before .before .before .before .before .before .before .change5 .given .1, c .before .clear-cells .ensures, c .left-free .ensures, ended (c .before .before .before), mod-eq-of-lt (ends (c .before .before .before .before .before .before .before)), swept-whole _ _ (long (c .before .before .before .before .before .before .before .before .before .before .before .before)))
+returns-7 c = let j = c .before .before .before in
+    let e = ending j in
+    ap₂ (λ cells place. withPlace (withCells (j .if3 .h) cells) (e .before .change5 .given .0 .0) place) (c .before .clear-cells .ensures) (c .left-free .ensures)
+    ∙ ended-house (house e) _ _ (sizes (e .before .before .before .before .before)) _ _ (mod-eq-of-lt (ends e)) (e .before .change5 .given .0 .1 .0) _ (j .before .before .has-claimed .ensures) (items (j .before)) (pending j)
+    ∙ sym (fitting (e .before .before .before) ∙ ap (effect (house e)) (e .before .change5 .given .1))
 
 pub perform-spec : {M : Type 1} → statement M
 perform-spec =
@@ -201,7 +210,7 @@ perform-spec =
     mul-t
     element-copy-out-t
     active-requires
-    mul-t21
+    mul-t23
     element-set-from-h
     next-ticket-requires
     mul-h
@@ -210,25 +219,23 @@ perform-spec =
     mark-cell-requires
     enum-known-change-3
     mark-cell-requires-2
-    mul-row
-    element-copy-out-row
-    with-pending-requires
-    mul-t36
-    element-set-from-h-2
+    mul-h-2
+    element-write-h-2
     enum-known-change-4
     certify-cells-requires
     mul-place
     element-copy-out-place
     certified-requires
-    mul-t44
-    element-set-from-h-3
+    mul-t43
+    element-set-from-h-2
     enum-known-change-5
     has-claimed-requires
-    end-items-requires
+    commit-items-requires
+    drop-pending-requires
     clear-cells-requires
     left-free-requires
-    mul-t56
-    element-set-from-h-4
+    mul-t57
+    element-set-from-h-3
     returns-2
     returns-3
     returns-4

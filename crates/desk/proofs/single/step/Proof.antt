@@ -11,17 +11,23 @@ use Rattle.ruling.specs.Ruling.{fits, effect, effectIfFit, ruled}
 use Rattle.desk.proofs.single.step.Statement.{statement}
 use Rattle.desk.proofs.single.step.Tie as tie
 
--- what came
+-- what came, seen from where the eight places were read, and from the ruling
+abbrev started : tie.After-p0 → tie.Start
+started c = c .before .before .before .before .before .before
+
+abbrev looked : tie.After-judge → tie.After-p0
+looked c = c .before .before .before .before .before .before .before .before .before .before
+
 abbrev house : tie.After-judge → House
-house c = c .before .before .before .before .before .before .before .before .before .before .before .before .before .before .before .args .t1
+house c = started (looked c) .args .t1
 
 abbrev request : tie.After-judge → Request
-request c = c .before .before .before .before .before .before .before .before .before .before .before .before .before .before .before .args .q
+request c = started (looked c) .args .q
 
 -- the judge was shown this house
 ruling : (c : tie.After-judge) → ruled (house c) (request c) ≡ c .judge .result
 unfolding Judged
-ruling c = sym (c .judge .ensures _ _ _ (shows (house c .items) (house c .places) (house c .next) (request c)))
+ruling c = sym (c .judge .ensures (house c) (shows (house c) (request c)))
 
 fit : (c : tie.After-judge) → fits (c .judge .result .change) ≡ true
 fit c = rw (ruling c) at (ruled-fits (house c) (request c))
@@ -42,11 +48,17 @@ element-copy-out-ticket c = search needs
 cast-item : tie.Need-cast-item
 cast-item c = search needs
 
-mul-x : tie.Need-mul-x
-mul-x c = search needs
+mul-row : tie.Need-mul-row
+mul-row c = search needs
 
-element-copy-out-x : tie.Need-element-copy-out-x
-element-copy-out-x c = search needs
+element-copy-out-row : tie.Need-element-copy-out-row
+element-copy-out-row c = search needs
+
+mul-pending : tie.Need-mul-pending
+mul-pending c = search needs
+
+element-copy-out-pending : tie.Need-element-copy-out-pending
+element-copy-out-pending c = search needs
 
 mul-b : tie.Need-mul-b
 mul-b c = search needs
@@ -147,8 +159,10 @@ step-spec =
     mul-ticket
     element-copy-out-ticket
     cast-item
-    mul-x
-    element-copy-out-x
+    mul-row
+    element-copy-out-row
+    mul-pending
+    element-copy-out-pending
     mul-b
     mul-p0
     element-copy-out-p0

@@ -1,0 +1,90 @@
+use Prim.Native.Nat.{_-_}
+use native.Mathlib.Omega.{arith}
+use mathlib.Core.Logic.{⊎-elim}
+use mathlib.Core.Path.{_≡_, refl, sym, _∙_}
+use lib.ListN.{length}
+use Rattle.house.proofs.Lists.{Sofar, sofar-none, sofar-set, sofar-skip, sofar-all}
+use Rattle.house.specs.House.{blank}
+use Rattle.house.specs.Rules.{committedItem}
+use Rattle.sweeps.proofs.Rounds.{committed-mine, uncommitted}
+use borrow.Author.Needs.{needs}
+use Rattle.sweeps.proofs.commit_items.Statement.{statement}
+use Rattle.sweeps.proofs.commit_items.Tie as tie
+
+abbrev Inv-loop : tie.InvT-loop
+Inv-loop pending cells me here out₀ i₀ out i = Sofar blank (λ n. n) (committedItem cells pending here) i out₀ out
+
+abbrev μ-loop : tie.MeasureT-loop
+μ-loop pending cells me here out₀ i₀ out i = 64 - i
+
+loop-holds : tie.Need-loop-holds Inv-loop μ-loop
+loop-holds c = sofar-none _ _ _ _
+
+mul-is-marked : tie.Need-mul-is-marked Inv-loop μ-loop
+mul-is-marked c = search needs
+
+add-is-marked : tie.Need-add-is-marked Inv-loop μ-loop
+add-is-marked c = search needs
+
+is-marked-requires : tie.Need-is-marked-requires Inv-loop μ-loop
+is-marked-requires c κs = search needs
+
+mul-x : tie.Need-mul-x Inv-loop μ-loop
+mul-x c = search needs
+
+array-copy-out-x : tie.Need-array-copy-out-x Inv-loop μ-loop
+array-copy-out-x c = search needs
+
+mul-commit-item : tie.Need-mul-commit-item Inv-loop μ-loop
+mul-commit-item c = search needs
+
+element-copy-out-commit-item : tie.Need-element-copy-out-commit-item Inv-loop μ-loop
+element-copy-out-commit-item c = search needs
+
+commit-item-requires : tie.Need-commit-item-requires Inv-loop μ-loop
+commit-item-requires c κs = search needs
+
+mul-out : tie.Need-mul-out Inv-loop μ-loop
+mul-out c = search needs
+
+array-set-from-out : tie.Need-array-set-from-out Inv-loop μ-loop
+array-set-from-out c = search needs
+
+add-i : tie.Need-add-i Inv-loop μ-loop
+add-i c = search needs
+
+loop-less : tie.Need-loop-less Inv-loop μ-loop
+loop-less c = search needs
+
+loop-again : tie.Need-loop-again Inv-loop μ-loop
+loop-again c = let s = c .before .before .before .loop .inv in
+    let e = sym (c .before .is-marked .ensures) in
+    ⊎-elim
+    (λ w. rw (w .4) (sofar-set _ _ _ _ _ _ s refl (w .3 .ensures ∙ committed-mine _ _ _ _ _ (e ∙ w .0 .taken)) (λ n h k ne. absurd (ne k))))
+    (λ w. rw (w .1) (sofar-skip _ _ _ _ s (λ n h k. rw k (uncommitted _ _ _ _ _ (e ∙ w .0 .left)))))
+    (c .if1 .came)
+
+returns : tie.Need-returns Inv-loop μ-loop
+returns c = sofar-all _ _ _ _ (c .before .loop .inv) (λ n h. let l : length (c .before .before .args .items) ≡ 64 = search needs in omega arith)
+
+pub commit-items-spec : {M : Type 1} → statement M
+commit-items-spec =
+    tie.close
+    (tie.spec
+    Inv-loop
+    μ-loop
+    loop-holds
+    mul-is-marked
+    add-is-marked
+    is-marked-requires
+    mul-x
+    array-copy-out-x
+    mul-commit-item
+    element-copy-out-commit-item
+    commit-item-requires
+    mul-out
+    array-set-from-out
+    add-i
+    loop-less
+    loop-again
+    returns)
