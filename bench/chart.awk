@@ -8,14 +8,14 @@ BEGIN {
 }
 $1 == "meta" { value = $5; for (k = 6; k <= NF; k++) value = value "," $k; meta[$3] = value }
 $1 == "time" {
-    time[$2, $3] = $5
-    if ($5 > most) most = $5
+    if (!(($2, $3) in time) || $5 < time[$2, $3]) time[$2, $3] = $5
     if (!($3 in seen)) { seen[$3] = 1; desks[++n] = $3 }
 }
 function text(class, x, y, anchor, words) {
     printf "<text class=\"%s\" x=\"%d\" y=\"%d\" text-anchor=\"%s\">%s</text>\n", class, x, y, anchor, words
 }
 END {
+    for (k in time) if (time[k] > most) most = time[k]
     left = 190; width = 720; bar = 20; room = width - left - 70
     group = 34 + n * (bar + 6)
     height = 64 + 3 * group + 26

@@ -13,7 +13,7 @@ BEGIN {
 }
 $1 == "meta" { value = $5; for (k = 6; k <= NF; k++) value = value "," $k; meta[$3] = value }
 $1 == "time" || $1 == "x86_64" { if (!($3 in seen)) { seen[$3] = 1; desks[++n] = $3 } }
-$1 == "time" { time[$2, $3] = $5; size = $4 }
+$1 == "time" { if (!(($2, $3) in time) || $5 < time[$2, $3]) time[$2, $3] = $5; size = $4 }
 $1 == "instructions" { instructions[$2, $3] = $5; counted = $4 }
 $1 == "x86_64" { foreign[$2, $3] = $5; few = $4 }
 $1 == "growth" { growth[$3, $4] = $5; if (!($4 in sized)) { sized[$4] = 1; sizes[++g] = $4 } }
@@ -74,7 +74,7 @@ END {
     }
     print ""
 
-    print "Measured on " meta["date"] " (" meta["machine"] "), " size " requests of each traffic over " meta["items"] " items, least of " meta["rounds"] " rounds over all desks in turn; replies of all desks compared byte for byte first."
+    print "Measured on " meta["date"] " (" meta["machine"] "), " size " requests of each traffic over " meta["items"] " items, least of " meta["rounds"] " rounds over all desks in turn, in three programs; replies of all desks compared byte for byte first."
     print "Plain C by " meta["plain by"] "; tuned C by " meta["tuned by"] ("bdb" in meta ? "; " meta["bdb"] : "; Berkeley DB was not to be had, so its row is missing") "; kit " meta["kit"] "."
     print "Load of the machine before and after: " meta["load before"] " and " meta["load after"] "; this program alone makes 1.0."
     if (counted) print "Instructions: callgrind, " counted " requests."
