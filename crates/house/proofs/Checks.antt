@@ -7,8 +7,8 @@ use mathlib.Core.Path.{_≡_, refl, sym, ap, _∙_}
 use mathlib.Core.Logic.{_≢_, inl, inr}
 use mathlib.Core.Bool.{Bool, true, false, _&&_, _||_, not, cond}
 use mathlib.Core.List.{List, [], _∷_, _++_}
-use lib.Dec.{eqb}
-use borrow.Author.Tests.{eq-eqb, ne-eqb, eqb-true, eqb-false, ltb-false, not-true}
+use lib.Dec.{eqb, leb}
+use borrow.Author.Tests.{eq-eqb, ne-eqb, eqb-true, eqb-false, ltb-false, leb-false, not-true}
 use Rattle.house.specs.declared.Found.{Found}
 use Rattle.house.specs.declared.Found.the-variants.{At, Nobody}
 use Rattle.house.specs.declared.House.{House}
@@ -17,7 +17,7 @@ use Rattle.house.specs.declared.Request.{Request}
 use Rattle.house.specs.Search.{any, nobody}
 use Rattle.house.specs.Cell.{holds}
 use Rattle.house.specs.Checks.{foremost, someApplies, testOf, before}
-use Rattle.house.specs.Rules.{asker, noOperation, noLevel, unusedSet, unknown, noItem, forbidden, stopped, untimely, wornOut, crowded, ticketless, delayed, refusals, checks, verdict, waitsAt}
+use Rattle.house.specs.Rules.{asker, noOperation, noLevel, usesItem, unusedSet, unknown, noItem, forbidden, stopped, untimely, wornOut, crowded, ticketless, delayed, refusals, checks, verdict, waitsAt}
 use Rattle.house.proofs.Tests.{is, clash, and-true, and-right-false, and-no, or-false, not-of}
 use Rattle.house.proofs.Searches.{scan-same, any-none}
 
@@ -127,6 +127,14 @@ clear h q e =
       roomy = past 11;
       ticketed = past 12;
     }
+
+-- an item that is there is below the count, and one of the 64 rows
+pub there : (count i : ℕ) → (leb count i || leb 64 i) ≡ false → (i < count) × (i < 64)
+there count i e = let k = or-false (leb count i) (leb 64 i) e in (leb-false count i (k .0), leb-false 64 i (k .1))
+
+pub item-there : (h : House) (q : Request) → usesItem q ≡ true → noItem h q ≡ false → (q .item < h .count) × (q .item < 64)
+unfolding noItem
+item-there h q u e = there (h .count) (q .item) (rw u at e)
 
 -- the number of a request, from its refusals and its delay
 pub verdict-is : (h : House) (q : Request) → verdict h q ≡ cond (eqb (foremost (refusals h q)) 0) (cond (delayed h q) 1 0) (foremost (refusals h q))

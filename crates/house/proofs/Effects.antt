@@ -14,12 +14,12 @@ use Rattle.house.specs.declared.Item.{Item}
 use Rattle.house.specs.declared.Mark.the-variants.{Read, Write, Certify}
 use Rattle.house.specs.declared.Place.{Place}
 use Rattle.house.specs.declared.Standing.the-variants.{Active, Certified}
-use Rattle.house.specs.Cell.{marked, cellAt, holds}
+use Rattle.house.specs.Cell.{cellAt, holds}
 use Rattle.house.specs.House.{fixed, Sizes, blank, vacant, itemAt, pendingAt, placeAt, nextAt}
 use Rattle.house.specs.Rules.{ticketAfter, begun, readBy, writtenBy, certifiedCell, certifiedBy, clearedCell, droppedPending, left, committedItem, committedBy, abortedBy}
 use Rattle.house.proofs.Tests.{is}
 use Rattle.house.proofs.Lists.{length-mapFrom, getD-mapFrom, map-mapFrom-same}
-use Rattle.house.proofs.Cells.{cell-here, cell-elsewhere, cell-mapped, length-withMark, length-mapCells}
+use Rattle.house.proofs.Cells.{cell-elsewhere, cell-mapped, length-withMark, length-mapCells}
 
 -- a list with one element set, read there and elsewhere
 place-set : (places : List Place) → length places ≡ 32 → (p : ℕ) (x : Place) → p < 32 → placeAt (set places p x) p ≡ x
@@ -47,18 +47,10 @@ module _ {h : House} (z : Sizes h) where
   unfolding readBy
   read-sizes me i = record { items = z .items; pending = z .pending; places = z .places; next = z .next; cells = length-withMark (h .cells) (z .cells) Read me i }
 
-  pub read-cell : (me i : ℕ) → me < 32 → i < 64 → cellAt (readBy h me i .cells) me i ≡ marked Read (cellAt (h .cells) me i)
-  unfolding readBy
-  read-cell me i b a = cell-here (h .cells) (z .cells) Read me i b a
-
   -- Write
   pub written-sizes : (me i v : ℕ) → Sizes (writtenBy h me i v)
   unfolding writtenBy
   written-sizes me i v = record { items = z .items; pending = simp length-set (z .pending); places = z .places; next = z .next; cells = length-withMark (h .cells) (z .cells) Write me i }
-
-  pub written-cell : (me i v : ℕ) → me < 32 → i < 64 → cellAt (writtenBy h me i v .cells) me i ≡ marked Write (cellAt (h .cells) me i)
-  unfolding writtenBy
-  written-cell me i v b a = cell-here (h .cells) (z .cells) Write me i b a
 
   pub written-pending : (me i v : ℕ) → i < 64 → pendingAt (writtenBy h me i v .pending) i ≡ v
   unfolding writtenBy

@@ -6,7 +6,6 @@ use native.Mathlib.Omega.{arith}
 use mathlib.Core.Path.{_≡_, refl, sym, _∙_}
 use mathlib.Core.Logic.{_≢_, inl, inr}
 use mathlib.Core.Bool.{Bool, true, false}
-use lib.Dec.{leb}
 use borrow.Author.Tests.{eqb-true, eqb-false, ne-eqb, leb-false}
 use Rattle.house.specs.declared.Answer.the-variants.{Refused, Done, Ticket}
 use Rattle.house.specs.declared.Found.{Found}
@@ -20,12 +19,12 @@ use Rattle.house.specs.Search.{ifFound}
 use Rattle.house.specs.Cell.{has, cellAt, holds, otherHolds, isSignalled}
 use Rattle.house.specs.House.{dominates, levelOf, itemAt, placeAt, nextAt, isFree, isCertified, vacancy}
 use Rattle.house.specs.Checks.{foremost}
-use Rattle.house.specs.Rules.{asker, usesItem, noItem, forbidden, stopped, untimely, wornOut, crowded, ticketless, waitsAt, conflict, delayed, refusals, checks, verdict, begun, readBy, readFor, writtenBy, certifiedBy, committedBy, abortedBy, askAnswer, outcome, served, performed, stepped}
+use Rattle.house.specs.Rules.{asker, forbidden, stopped, untimely, wornOut, crowded, ticketless, waitsAt, conflict, delayed, refusals, checks, verdict, begun, readBy, readFor, writtenBy, certifiedBy, committedBy, abortedBy, askAnswer, outcome, served, performed, stepped}
 use Rattle.house.proofs.Tests.{is, same, clash, or-false, and-right-false, not-is}
 use Rattle.house.proofs.Searches.{any-none}
 use Rattle.house.proofs.Holders.{other-none, peer-none}
 use Rattle.house.proofs.Places.{Seated, seek-at, vacancy-at, is-active, is-certified}
-use Rattle.house.proofs.Checks.{Clear, clear, verdict-is, somebody, asker-known}
+use Rattle.house.proofs.Checks.{Clear, clear, item-there, verdict-is, somebody, asker-known}
 use Rattle.reach.proofs.Law.{held}
 
 -- Begin, at the free place `me` of level l
@@ -129,13 +128,6 @@ module _ (h : House) (q : Request) (me : ℕ) where
   ask-is : q .operation ≡ 6 → served h q me ≡ outcome h q (askAnswer (h .cells) me)
   unfolding served
   ask-is o = rw o
-
--- the item of a read or a write is there, and is a row
-pub item-there : (h : House) (q : Request) → usesItem q ≡ true → noItem h q ≡ false → (q .item < h .count) × (q .item < 64)
-unfolding noItem
-item-there h q u e =
-    let k = or-false (leb (h .count) (q .item)) (leb 64 (q .item)) (rw u at e) in
-    (leb-false (h .count) (q .item) (k .0), leb-false 64 (q .item) (k .1))
 
 -- one who is delayed is found, and has the conflict
 pub delayed-at : (h : House) (q : Request) → delayed h q ≡ true → (me : ℕ) × (asker h q ≡ At me) × (conflict (h .cells) q me ≡ true)

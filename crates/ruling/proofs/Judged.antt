@@ -21,7 +21,7 @@ use Rattle.house.specs.Checks.{foremost}
 use Rattle.house.specs.Search.{scan, find, ifFound, nobody}
 use Rattle.house.specs.House.{blank, vacant, itemAt, pendingAt, placeAt, nextAt, freeAt, hasTicket, seek, vacancy}
 use Rattle.house.specs.Rules.{read, write, certify, _does_, asker, noOperation, noLevel, unusedSet, unknown, noItem, forbidden, stopped, untimely, wornOut, crowded, ticketless, conflict, delayed, refusals, checks, verdict, askAnswer}
-use Rattle.house.proofs.Tests.{is, same, and-true, or-false, or-right}
+use Rattle.house.proofs.Tests.{is, same, and-true, or-right}
 use Rattle.house.proofs.Checks.{numbered}
 use Rattle.house.proofs.Searches.{find-at}
 use Rattle.house.specs.declared.Answer.the-variants.{Done, Ticket}
@@ -170,10 +170,6 @@ module _ (h : House) (q : Request) where
               ]
             ]
           ]
-
--- a row that is there is one of 64
-pub row-there : (count i : ℕ) → (leb count i || leb 64 i) ≡ false → i < 64
-row-there count i e = leb-false 64 i (or-false (leb count i) (leb 64 i) e .1)
 
 -- The row and the pending value of an item that the house has not are not looked at
 

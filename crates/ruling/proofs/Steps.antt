@@ -4,17 +4,17 @@ use Prim.Native.Nat.{_<_}
 use mathlib.Core.Path.{_≡_, refl}
 use mathlib.Core.Logic.{inl, inr}
 use mathlib.Core.Bool.{true, false}
-use lib.Dec.{eqb, ltb, leb}
-use borrow.Author.Tests.{eqb-true, eqb-false, lt-ltb, leb-false}
+use lib.Dec.{eqb, ltb}
+use borrow.Author.Tests.{eqb-true, eqb-false, lt-ltb}
 use Rattle.house.specs.declared.House.{House}
 use Rattle.house.specs.declared.Request.{Request}
 use Rattle.house.specs.House.{Sizes, vacancy}
 use Rattle.house.specs.Checks.{foremost}
-use Rattle.house.specs.Rules.{begin, read, write, certify, commit, abort, _does_, usesItem, noItem, crowded, refusals, verdict, outcome, served, performed, stepped}
-use Rattle.house.proofs.Tests.{is, and-intro, and-right-false, or-false, or-left, or-right}
+use Rattle.house.specs.Rules.{begin, read, write, certify, commit, abort, _does_, usesItem, crowded, refusals, verdict, outcome, served, performed, stepped}
+use Rattle.house.proofs.Tests.{is, and-intro, and-right-false, or-left, or-right}
 use Rattle.house.proofs.Places.{seek-at, vacancy-at}
 use Rattle.house.proofs.Effects.{begun-sizes, read-sizes, written-sizes, certified-sizes, left-sizes, committed-sizes}
-use Rattle.house.proofs.Checks.{Clear, clear, passes, somebody, asker-known}
+use Rattle.house.proofs.Checks.{Clear, clear, item-there, passes, somebody, asker-known}
 use Rattle.ruling.specs.declared.Change.{Change}
 use Rattle.ruling.specs.declared.Change.the-variants.{Nothing, Begin, Read, Write, Certify, End}
 use Rattle.ruling.specs.Ruling.{effect, fits, granted, ruled}
@@ -28,8 +28,7 @@ module _ (h : House) (q : Request) (passed : verdict h q ≡ 0) where
 
   -- a read or a write that passed names a row
   item-below : usesItem q ≡ true → q .item < 64
-  unfolding noItem
-  item-below u = leb-false 64 (q .item) (or-false (leb (h .count) (q .item)) (leb 64 (q .item)) (and-right-false (usesItem q) _ u (c .present)) .1)
+  item-below u = item-there h q u (c .present) .1
 
   -- what is granted is what the rules do, and names what the house has
   abbrev Made : Type 0

@@ -1,6 +1,6 @@
 use mathlib.Core.Path.{sym, _∙_}
 use borrow.Author.Needs.{needs}
-use Rattle.ruling.proofs.Judged.{row-there}
+use Rattle.house.proofs.Checks.{there}
 use Rattle.ruling.specs.Judged.{readRuled}
 use Rattle.judge.proofs.judge_read.Statement.{statement}
 use Rattle.judge.proofs.judge_read.Tie as tie
@@ -49,7 +49,7 @@ unfolding readRuled
 returns-4 c = simp (readRuled, sym (c .before .before .before .before .before .before .before .before .lacks-item .ensures) ∙ c .before .before .before .before .before .before .before .if1 .left, sym (c .before .before .before .before .before .before .does-not-dominate .ensures) ∙ c .before .before .before .before .before .if2 .left, sym (c .before .before .before .before .is-signalled .ensures) ∙ c .before .before .before .if3 .left, sym (c .before .before .is-certified .ensures) ∙ c .before .if4 .taken, c .refuse4 .ensures)
 
 other-holds-requires : tie.Need-other-holds-requires
-other-holds-requires c κs = (search needs, row-there _ _ (sym (c .before .before .before .before .before .before .before .lacks-item .ensures) ∙ c .before .before .before .before .before .before .if1 .left))
+other-holds-requires c κs = (search needs, there _ _ (sym (c .before .before .before .before .before .before .before .lacks-item .ensures) ∙ c .before .before .before .before .before .before .if1 .left) .1)
 
 refuse-requires-5 : tie.Need-refuse-requires-5
 refuse-requires-5 c κs = search needs
@@ -59,7 +59,7 @@ unfolding readRuled
 returns-5 c = simp (readRuled, sym (c .before .before .before .before .before .before .before .before .before .before .lacks-item .ensures) ∙ c .before .before .before .before .before .before .before .before .before .if1 .left, sym (c .before .before .before .before .before .before .before .before .does-not-dominate .ensures) ∙ c .before .before .before .before .before .before .before .if2 .left, sym (c .before .before .before .before .before .before .is-signalled .ensures) ∙ c .before .before .before .before .before .if3 .left, sym (c .before .before .before .before .is-certified .ensures) ∙ c .before .before .before .if4 .left, sym (c .before .before .other-holds .ensures) ∙ c .before .if5 .taken, c .refuse5 .ensures)
 
 answer-read-requires : tie.Need-answer-read-requires
-answer-read-requires c κs = (search needs, row-there _ _ (sym (c .before .before .before .before .before .before .before .before .before .lacks-item .ensures) ∙ c .before .before .before .before .before .before .before .before .if1 .left))
+answer-read-requires c κs = (search needs, there _ _ (sym (c .before .before .before .before .before .before .before .before .before .lacks-item .ensures) ∙ c .before .before .before .before .before .before .before .before .if1 .left) .1)
 
 allow-requires : tie.Need-allow-requires
 allow-requires c κs = search needs

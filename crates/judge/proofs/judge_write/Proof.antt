@@ -1,7 +1,7 @@
 use mathlib.Core.Path.{sym, _∙_}
 use borrow.Author.Needs.{needs}
 use borrow.Author.Tests.{eq-eqb, ne-eqb, le-leb, lt-leb}
-use Rattle.ruling.proofs.Judged.{row-there}
+use Rattle.house.proofs.Checks.{there}
 use Rattle.ruling.specs.Judged.{writeRuled}
 use Rattle.judge.proofs.judge_write.Statement.{statement}
 use Rattle.judge.proofs.judge_write.Tie as tie
@@ -54,7 +54,7 @@ unfolding writeRuled
 returns-5 c = simp (writeRuled, sym (c .before .before .before .before .before .before .before .before .before .before .before .lacks-item .ensures) ∙ c .before .before .before .before .before .before .before .before .before .before .if1 .left, eq-eqb _ _ (c .before .before .before .before .before .before .before .if2 .left), sym (c .before .before .before .before .before .before .is-signalled .ensures) ∙ c .before .before .before .before .before .if3 .left, sym (c .before .before .before .before .is-certified .ensures) ∙ c .before .before .before .if4 .left, le-leb _ _ (c .before .if5 .taken), c .refuse5 .ensures)
 
 other-claims-requires : tie.Need-other-claims-requires
-other-claims-requires c κs = (search needs, row-there _ _ (sym (c .before .before .before .before .before .before .before .before .before .before .lacks-item .ensures) ∙ c .before .before .before .before .before .before .before .before .before .if1 .left))
+other-claims-requires c κs = (search needs, there _ _ (sym (c .before .before .before .before .before .before .before .before .before .before .lacks-item .ensures) ∙ c .before .before .before .before .before .before .before .before .before .if1 .left) .1)
 
 refuse-requires-6 : tie.Need-refuse-requires-6
 refuse-requires-6 c κs = search needs
