@@ -1,14 +1,16 @@
 -- Laws of the bytes that are moved to the front.
 -- Assumes nothing.
-use Prim.Native.Nat.{ℕ, _+_, _<_, _≤_}
-use native.Mathlib.Nat.{zero-add, add-comm}
+use Prim.Native.Nat.{ℕ, zero, suc, _+_, _<_, min}
+use native.Mathlib.Nat.{zero-add, add-comm, zero-min, min-zero, suc-min-suc}
 use native.Mathlib.Omega.{arith}
-use mathlib.Core.Path.{_≡_, sym, _∙_}
-use mathlib.Core.List.{List, _++_}
-use lib.ListN.{length, getD, set, take, drop, length-append, length-drop}
+use mathlib.Core.Path.{_≡_, refl, sym, ap, _∙_}
+use mathlib.Core.List.{List, [], _∷_, _++_}
+use lib.ListN.{length, getD, set, take, drop, length-drop}
 use lib.Seq.{paste, take-length, length-take-le, getD-append-add, getD-drop}
 use Rattle.desk.proofs.Laws.{copied}
-use Rattle.dialogue.specs.Dialogue.{kept}
+use Rattle.dialogue.specs.declared.Fed.{Fed}
+use Rattle.dialogue.specs.declared.Dialogue.{Dialogue}
+use Rattle.dialogue.specs.Dialogue.{fed, kept, heard}
 
 -- the byte that is moved next has not been written over
 module _ (b : List ℕ) (used k : ℕ) (in-reach : used + k < length b) where
@@ -29,8 +31,16 @@ module _ (b : List ℕ) (used : ℕ) where
   unfolding kept
   kept-is = rw (zero-add (length (drop used b)), take-length (drop used b))
 
-  -- they are there, whatever stands past them
-  pub kept-within : {r : ℕ} {out : List ℕ} → (r ≡ length (drop used b)) × (out ≡ kept used b) → (past : List ℕ) → r ≤ length (out ++ past)
-  unfolding kept
-  kept-within k past =
-      rw (k .0, k .1, length-append (drop used b ++ drop (length (drop used b)) b) past, length-append (drop used b) (drop (length (drop used b)) b)) (omega arith)
+-- no more is taken or dropped than is there
+clipped : (n : ℕ) (b : List ℕ) → (take (min n (length b)) b ≡ take n b) × (drop (min n (length b)) b ≡ drop n b)
+clipped zero b = rw (zero-min (length b)) (refl, refl)
+clipped (suc n) [] = rw (min-zero (suc n)) (refl, refl)
+clipped (suc n) (x ∷ b) = rw (suc-min-suc n (length b)) (ap (λ l. x ∷ l) (clipped n b .0), clipped n b .1)
+
+-- a round is what was fed of the filled part, and what of it is kept
+module _ (s : Dialogue) (b : List ℕ) (have got : ℕ) (room : List ℕ) (end : ℕ) (filled : end ≡ min (have + got) (length b)) where
+  pub heard-is : (f : Fed) (out : List ℕ) → (f, out) ≡ fed s (take end b) room → (left : ℕ) (first : List ℕ) → (left ≡ length (drop (f .used) (take end b))) × (first ≡ kept (f .used) (take end b)) → (record { dialogue = f .dialogue; have = left; written = f .written }, first ++ drop end b, out) ≡ heard s b have got room
+  unfolding heard
+  heard-is f out e left first k =
+      let same = clipped (have + got) b in
+      rw (sym (same .0), sym (same .1), sym filled, sym e, k .0, k .1)

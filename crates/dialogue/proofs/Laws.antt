@@ -2,7 +2,7 @@
 -- Assumes nothing.
 use Prim.Native.Nat.{ℕ, _+_, _≤_}
 use native.Mathlib.Omega.{arith}
-use mathlib.Core.Path.{_≡_, sym}
+use mathlib.Core.Path.{_≡_, refl, sym}
 use mathlib.Core.Logic.{inl, inr}
 use mathlib.Core.Bool.{true, false, cond}
 use mathlib.Core.List.{List, [], _∷_}
@@ -72,25 +72,30 @@ module _ (s : Dialogue) (b room : List ℕ) where
   unfolding fed
   fed-drops n e = rw e
 
--- the replies that were written are there
-
-abbrev pub Within : Fed × List ℕ → Type 0
-Within f = f .0 .written ≤ length (f .1)
-
-serves-within : (h : House) (k : ℕ) (b room : List ℕ) → Within (serves h k b room)
-unfolding serves turned
-serves-within h k b room = rw (length-answered h (drop k b) room (length b)) (share-fits (length b) (drop k b) room .1)
-
-pub fed-within : (stage : Stage) (h : House) (b room : List ℕ) → Within (fed (record { stage = stage; house = h }) b room)
+-- what holds however bytes are taken, holds of all that are fed
+pub fed-cases : (P : Fed × List ℕ → Type 0) (stage : Stage) (h : House) (b room : List ℕ) → ((g : House) (k : ℕ) → P (serves g k b room)) → ((t : Dialogue) → P (drops t b room)) → ((t : Dialogue) → P (waits t room)) → P (fed (record { stage = stage; house = h }) b room)
 unfolding fed opens
-fed-within Waiting h b room =
+fed-cases P Waiting h b room serving dropping waiting =
     elim (is (decided b)) [
       | inl y ↦ rw y
           (elim (is (eqb (opening (levels b) .number) 0)) [
-            | inl z ↦ rw z (serves-within (opening (levels b) .house) (announced b + 1) b room)
-            | inr z ↦ rw z (omega arith)
+            | inl z ↦ rw z (serving (opening (levels b) .house) (announced b + 1))
+            | inr z ↦ rw z (dropping _)
           ])
-      | inr n ↦ rw n (omega arith)
+      | inr n ↦ rw n (waiting _)
     ]
-fed-within Open h b room = serves-within h 0 b room
-fed-within (Refused n) h b room = omega arith
+fed-cases P Open h b room serving dropping waiting = serving h 0
+fed-cases P (Refused n) h b room serving dropping waiting = dropping _
+
+-- the reply bytes are as many as were lent, and those that were written are among them
+abbrev pub Within : List ℕ → Fed × List ℕ → Type 0
+Within room f = (length (f .1) ≡ length room) × (f .0 .written ≤ length (f .1))
+
+serves-within : (b room : List ℕ) (h : House) (k : ℕ) → Within room (serves h k b room)
+unfolding serves turned
+serves-within b room h k =
+    let same = length-answered h (drop k b) room (length b) in
+    (same, rw same (share-fits (length b) (drop k b) room .1))
+
+pub fed-within : (stage : Stage) (h : House) (b room : List ℕ) → Within room (fed (record { stage = stage; house = h }) b room)
+fed-within stage h b room = fed-cases (Within room) stage h b room (serves-within b room) (λ t. (refl, omega arith)) (λ t. (refl, omega arith))

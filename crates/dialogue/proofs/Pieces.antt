@@ -27,7 +27,7 @@ use Rattle.dialogue.specs.Pieces.{runOf, programmed, Piece, joined, fare
 use Rattle.dialogue.proofs.Laws.{there, opened-there, opens-open, opens-refused, fed-opens, fed-waits, fed-serves, fed-drops}
 
 -- these bytes first
-abbrev before : List ℕ → List ℕ × House → List ℕ × House
+abbrev pub before : List ℕ → List ℕ × House → List ℕ × House
 before l rest = (l ++ rest .0, rest .1)
 
 -- Requests, of bytes in two parts
@@ -119,18 +119,18 @@ programmed-long b y =
 
 -- WHAT IS STILL TO BE WRITTEN, with these bytes to come
 
-unfoldable expected : Dialogue → List ℕ → List ℕ × House
+unfoldable pub expected : Dialogue → List ℕ → List ℕ × House
 expected s b = atStage (s .stage) (programmed b) (runOf (s .house) b) (farewell (s .stage), s .house)
 
 -- nothing more can be made of these bytes
-unfoldable Unfinished : Dialogue → List ℕ → Type 0
+unfoldable pub Unfinished : Dialogue → List ℕ → Type 0
 Unfinished s b = atStage (s .stage) (decided b ≡ false) (length b < 12) (Unit {0})
 
 -- who waits has the house of no items
-unfoldable Fresh : Dialogue → Type 0
+unfoldable pub Fresh : Dialogue → Type 0
 Fresh s = atStage (s .stage) (s .house ≡ opening [] .house) (Unit {0}) (Unit {0})
 
-expected-last : (stage : Stage) (h : House) (b : List ℕ) → Fresh (record { stage = stage; house = h }) → Unfinished (record { stage = stage; house = h }) b → (farewell (ended stage), h) ≡ expected (record { stage = stage; house = h }) b
+pub expected-last : (stage : Stage) (h : House) (b : List ℕ) → Fresh (record { stage = stage; house = h }) → Unfinished (record { stage = stage; house = h }) b → (farewell (ended stage), h) ≡ expected (record { stage = stage; house = h }) b
 unfolding expected Fresh Unfinished programmed runOf decided wired replies finally requests
 expected-last Waiting h b e u = rw (le-leb (length b) (announced b) (ltb-false (announced b) (length b) (or-false _ _ u .0)), e)
 expected-last Open h b e u =
@@ -140,11 +140,11 @@ expected-last (Refused m) h b e u = refl
 
 -- BYTES GIVEN
 
-record After (s : Dialogue) (bytes : List ℕ) (f : Fed × List ℕ) : Type 0 where
-  same : (future : List ℕ) → before (take (f .0 .written) (f .1)) (expected (f .0 .dialogue) (drop (f .0 .used) bytes ++ future)) ≡ expected s (bytes ++ future)
-  fresh : Fresh s → Fresh (f .0 .dialogue)
-  unfinished : Unfinished (f .0 .dialogue) (drop (f .0 .used) bytes)
-  little : length (drop (f .0 .used) bytes) ≤ 64
+pub record After (s : Dialogue) (bytes : List ℕ) (f : Fed × List ℕ) : Type 0 where
+  pub same : (future : List ℕ) → before (take (f .0 .written) (f .1)) (expected (f .0 .dialogue) (drop (f .0 .used) bytes ++ future)) ≡ expected s (bytes ++ future)
+  pub fresh : Fresh s → Fresh (f .0 .dialogue)
+  pub unfinished : Unfinished (f .0 .dialogue) (drop (f .0 .used) bytes)
+  pub little : length (drop (f .0 .used) bytes) ≤ 64
 
 -- to an open dialogue, or to one that these bytes open
 after-serves : (s : Dialogue) (h : House) (k : ℕ) (bytes room : List ℕ) → k ≤ length bytes → Enough bytes room → ((future : List ℕ) → runOf h (drop k bytes ++ future) ≡ expected s (bytes ++ future)) → After s bytes (serves h k bytes room)
@@ -200,7 +200,7 @@ after-waiting h bytes room enough =
           record { same = λ future. refl; fresh = λ i. i; unfinished = n; little = omega (arith, ltb-false (announced bytes) (length bytes) (u .0), ltb-false 64 (announced bytes) (u .1)) })
     ]
 
-after : (stage : Stage) (h : House) (bytes room : List ℕ) → Enough bytes room → After (record { stage = stage; house = h }) bytes (fed (record { stage = stage; house = h }) bytes room)
+pub after : (stage : Stage) (h : House) (bytes room : List ℕ) → Enough bytes room → After (record { stage = stage; house = h }) bytes (fed (record { stage = stage; house = h }) bytes room)
 unfolding expected Unfinished
 after Waiting h bytes room enough = after-waiting h bytes room enough
 after Open h bytes room enough = rw (fed-serves (record { stage = Open; house = h }) bytes room refl) (after-serves _ h 0 bytes room (omega arith) enough (λ future. refl))
@@ -219,9 +219,21 @@ conversed-expected s unused (p ∷ ps) e u r =
     ∙ a .same (joined ps)
     ∙ ap (expected s) (append-assoc unused (p .0) (joined ps))
 
+-- a dialogue that has just started
+pub fresh-start : Fresh started
+unfolding started Fresh
+fresh-start = refl
+
+pub nothing-yet : Unfinished started []
+unfolding started Unfinished decided
+nothing-yet = refl
+
+pub all-expected : (b : List ℕ) → expected started b ≡ programmed b
+unfolding started expected
+all-expected b = refl
+
 pub in-pieces : InPieces
-unfolding started expected Fresh Unfinished decided
-in-pieces ps r = conversed-expected started [] ps refl refl r
+in-pieces ps r = conversed-expected started [] ps fresh-start nothing-yet r ∙ all-expected (joined ps)
 
 pub leaves-little : LeavesLittle
 leaves-little s bytes room enough = after (s .stage) (s .house) bytes room enough .little

@@ -19,9 +19,9 @@ use Rattle.dialogue.proofs.refuse.Reads as refuseReads
 use Rattle.dialogue.proofs.feed
 use Rattle.dialogue.proofs.feed.Kinds as feedKinds
 use Rattle.dialogue.proofs.feed.Reads as feedReads
-use Rattle.dialogue.proofs.keep
-use Rattle.dialogue.proofs.keep.Kinds as keepKinds
-use Rattle.dialogue.proofs.keep.Reads as keepReads
+use Rattle.dialogue.proofs.hear
+use Rattle.dialogue.proofs.hear.Kinds as hearKinds
+use Rattle.dialogue.proofs.hear.Reads as hearReads
 
 pub start-settled : (κs : Lifetimes.Lfts 0) (a : World.ArgsD start.signature κs) (r r′ : World.ResD start.signature κs) (s s′ : Clauses.AtExit (Kinds'.endedOf 0 startKinds.ps startKinds.r) κs) → startReads.Post κs a r s → startReads.Post κs a r′ s′ → r ≡ r′
 start-settled κs a r r′ s s′ p q = p ∙ sym q
@@ -36,6 +36,6 @@ refuse-settled κs a r r′ s s′ p q = p ∙ sym q
 pub feed-settled : (κs : Lifetimes.Lfts 2) (a : World.ArgsD feed.signature κs) (r r′ : World.ResD feed.signature κs) (s s′ : Clauses.AtExit (Kinds'.endedOf 2 feedKinds.ps feedKinds.r) κs) → feedReads.Post κs a r s → feedReads.Post κs a r′ s′ → (r ≡ r′) × (now (s .1 .1 .0) ≡ now (s′ .1 .1 .0))
 feed-settled κs a r r′ s s′ p q = (ap (λ x. x .0) (p ∙ sym q), ap (λ x. x .1) (p ∙ sym q))
 
--- the caller's bytes too
-pub keep-settled : (κs : Lifetimes.Lfts 1) (a : World.ArgsD keep.signature κs) (r r′ : World.ResD keep.signature κs) (s s′ : Clauses.AtExit (Kinds'.endedOf 1 keepKinds.ps keepKinds.r) κs) → keepReads.Post κs a r s → keepReads.Post κs a r′ s′ → (r ≡ r′) × (now (s .0) ≡ now (s′ .0))
-keep-settled κs a r r′ s s′ p q = (p .0 ∙ sym (q .0), p .1 ∙ sym (q .1))
+-- the buffer and the replies too
+pub hear-settled : (κs : Lifetimes.Lfts 2) (a : World.ArgsD hear.signature κs) (r r′ : World.ResD hear.signature κs) (s s′ : Clauses.AtExit (Kinds'.endedOf 2 hearKinds.ps hearKinds.r) κs) → hearReads.Post κs a r s → hearReads.Post κs a r′ s′ → (r ≡ r′) × (now (s .1 .0) ≡ now (s′ .1 .0)) × (now (s .1 .1 .1 .1 .0) ≡ now (s′ .1 .1 .1 .1 .0))
+hear-settled κs a r r′ s s′ p q = let e = p ∙ sym q in (ap (λ x. x .0) e, ap (λ x. x .1) e, ap (λ x. x .2) e)

@@ -13,6 +13,7 @@ use Rattle.house.specs.Opening.{opening}
 use Rattle.wire.specs.Wire.{replyBytes}
 use Rattle.desk.specs.Turn.{turned, answered}
 use Rattle.dialogue.specs.declared.Fed.{Fed}
+use Rattle.dialogue.specs.declared.Heard.{Heard}
 use Rattle.dialogue.specs.declared.Dialogue.{Dialogue}
 use Rattle.dialogue.specs.declared.Stage.{Stage}
 use Rattle.dialogue.specs.declared.Stage.the-variants.{Waiting, Open, Refused}
@@ -85,3 +86,14 @@ fed s bytes room =
 -- those past the first `used`, moved to the front
 unfoldable pub kept : ℕ → List ℕ → List ℕ
 kept used bytes = drop used bytes ++ drop (length (drop used bytes)) bytes
+
+-- A ROUND of a caller that reads into a buffer: it begins with `have` bytes that were not used before, and a read put `got` more
+-- behind them. The next dialogue, how many bytes are kept, how many reply bytes are to be written; the buffer; the reply bytes
+unfoldable pub heard : Dialogue → List ℕ → ℕ → ℕ → List ℕ → Heard × List ℕ × List ℕ
+heard s buffer have got room =
+    let bytes = take (have + got) buffer in
+    let f = fed s bytes room in (
+      record { dialogue = f .0 .dialogue; have = length (drop (f .0 .used) bytes); written = f .0 .written },
+      kept (f .0 .used) bytes ++ drop (have + got) buffer,
+      f .1,
+    )

@@ -1,2 +1,3 @@
 pub mod Dialogue
 pub mod Pieces
+pub mod Rounds

@@ -3,10 +3,10 @@
 
 ghost use mathlib.Core.Path.{_≡_};
 ghost use mathlib.Core.Bool.{true, cond};
-ghost use Prim.Native.Nat.{_≤_, _<_};
+ghost use Prim.Native.Nat.{_+_, _≤_, _<_, min};
 ghost use lib.ListN.{length, drop};
 ghost use lib.Dec.{ltb};
-ghost use Rattle.dialogue.specs.Dialogue.{announced, decided, refusal, started, ended, serves, opens, fed, kept};
+ghost use Rattle.dialogue.specs.Dialogue.{announced, decided, refusal, started, ended, serves, opens, fed, kept, heard};
 use desk::turn;
 use house::House;
 use house::Reply;
@@ -29,6 +29,13 @@ pub struct Dialogue {
 pub struct Fed {
     pub dialogue: Dialogue,
     pub used: usize,
+    pub written: usize,
+}
+
+// The next dialogue, how many bytes are kept at the front of the buffer, and how many reply bytes are to be written.
+pub struct Heard {
+    pub dialogue: Dialogue,
+    pub have: usize,
     pub written: usize,
 }
 
@@ -159,7 +166,7 @@ pub fn feed(s: Dialogue, bytes: &[u8], replies: &mut [u8]) -> Fed
 }
 
 // Moves what was not used to the front, and says how much that is.
-pub fn keep(bytes: &mut [u8], used: usize) -> usize
+fn keep(bytes: &mut [u8], used: usize) -> usize
     ensures { λ r. ⌜ (r ≡ length (drop used (now (bytes .entry)))) × (now (bytes .exit) ≡ kept used (now (bytes .entry))) ⌝ }
 {
     if bytes.len() <= used {
@@ -170,4 +177,33 @@ pub fn keep(bytes: &mut [u8], used: usize) -> usize
         bytes[k] = bytes[used + k];
     }
     left
+}
+
+// How many bytes of a buffer are filled, with `got` more behind the first `have`.
+fn filled(buffer: &[u8], have: usize, got: usize) -> usize
+    ensures { λ r. ⌜ r ≡ min (have + got) (length (now (buffer .entry))) ⌝ }
+{
+    if buffer.len() <= have {
+        return buffer.len();
+    }
+    if buffer.len() - have <= got {
+        return buffer.len();
+    }
+    have + got
+}
+
+// All that stands between a read and a write. The buffer begins with `have` bytes that were not used before, and a read put
+// `got` more behind them; what is not used now is moved to the front.
+pub fn hear(s: Dialogue, buffer: &mut [u8], have: usize, got: usize, replies: &mut [u8]) -> Heard
+    ensures { λ r. ⌜ (r, now (buffer .exit), now (replies .exit)) ≡ heard s (now (buffer .entry)) have got (now (replies .entry)) ⌝ }
+{
+    let end = filled(buffer, have, got);
+    let fed = feed(s, &buffer[..end], replies);
+    let dialogue = fed.dialogue;
+    let left = keep(&mut buffer[..end], fed.used);
+    Heard {
+        dialogue,
+        have: left,
+        written: fed.written,
+    }
 }

@@ -1,58 +1,101 @@
-// The desk as a program: standard input to standard output. All that it decides is decided by `dialogue`; here bytes are read,
-// handed over and written, and what is answered is written before more is read.
+// The desk as a program: standard input to standard output. What is made of the bytes is decided by `dialogue`; here they are
+// read, handed over and written, and what is answered is written before more is read. A read or a write that fails is told on
+// standard error, and nothing more is answered.
 
-ghost use Prim.Native.Nat.{_≤_};
+ghost use Prim.Native.Nat.{_<_};
 ghost use lib.ListN.{length};
+ghost use Rattle.dialogue.specs.Rounds.{Room};
 use dialogue::Dialogue;
 use dialogue::Stage;
+use libc::EINTR;
 use libc::STDIN_FILENO;
 use libc::STDOUT_FILENO;
 
-// The dialogue after a round, how many bytes are left for the next, and whether there is one.
+// What comes after a round: another, the end, or nothing, since a read or a write failed.
+enum Next {
+    Round,
+    End,
+    Failed,
+}
+
+// The dialogue after a round, how many bytes are kept for the next, and what comes.
 struct Round {
     dialogue: Dialogue,
     have: usize,
-    goes_on: bool,
+    next: Next,
 }
 
-fn is_refused(stage: Stage) -> bool {
+// A read that brought nothing: the input ended, a signal came first, or it failed.
+fn after_no_bytes(got: isize) -> Next {
+    if got == 0 {
+        return Next::End;
+    }
+    if os::errno() == EINTR {
+        return Next::Round;
+    }
+    os::fail(b"desk: cannot read standard input");
+    Next::Failed
+}
+
+// Replies that were not written are a failure, and a refused opening is the end.
+fn after_replies(is_written: bool, stage: Stage) -> Next {
+    if !is_written {
+        return Next::Failed;
+    }
     if let Stage::Refused(_) = stage {
-        true
+        Next::End
     } else {
-        false
+        Next::Round
     }
 }
 
-// One read, and the replies to what it brought. The replies to all requests that the buffer can hold have room.
+// Writes all bytes, or says why it cannot. A write that a signal interrupts is tried again.
+fn write_out(bytes: &[u8]) -> bool {
+    let mut done = 0;
+    let mut tries = u64::MAX;
+    while tries > 0 {
+        if done == bytes.len() {
+            return true;
+        }
+        let put = libc::write(STDOUT_FILENO, &bytes[done..]);
+        if (put <= 0) & (os::errno() != EINTR) {
+            os::fail(b"desk: cannot write standard output");
+            return false;
+        }
+        done += io::count(put, &bytes[done..]);
+        tries -= 1;
+    }
+    false
+}
+
+// One read, and the replies to what it brought. There is room for them, and the buffer is never full.
 fn exchange(s: Dialogue, buffer: &mut [u8], have: usize, replies: &mut [u8]) -> Round
-    requires { ⌜ have ≤ length (now buffer) ⌝ }
-    ensures { λ r. ⌜ r .have ≤ length (now (buffer .exit)) ⌝ }
+    requires { ⌜ (have < length (now buffer)) × Room (now buffer) (now replies) ⌝ }
+    ensures { λ r. ⌜ (r .have < length (now (buffer .exit))) × Room (now (buffer .exit)) (now (replies .exit)) ⌝ }
 {
     let got = libc::read(STDIN_FILENO, &mut buffer[have..]);
     if got <= 0 {
         return Round {
             dialogue: s,
             have,
-            goes_on: false,
+            next: after_no_bytes(got),
         };
     }
     let more = io::count(got, &buffer[have..]);
-    let end = have + more;
-    let fed = dialogue::feed(s, &buffer[..end], replies);
-    let dialogue = fed.dialogue;
+    let heard = dialogue::hear(s, buffer, have, more, replies);
+    let dialogue = heard.dialogue;
     let stage = dialogue.stage;
-    let written = fed.written;
-    let is_written = io::write_all(STDOUT_FILENO, &replies[..written]);
-    let left = dialogue::keep(&mut buffer[..end], fed.used);
+    let written = heard.written;
+    let is_written = write_out(&replies[..written]);
     Round {
         dialogue,
-        have: left,
-        goes_on: is_written & !is_refused(stage),
+        have: heard.have,
+        next: after_replies(is_written, stage),
     }
 }
 
 // A proved loop has to end, and nothing says that an input does. So it counts down from a number that no run uses up.
-fn converse() -> Dialogue {
+fn converse() -> Round {
     let mut buffer = [0u8; 12288];
     let mut replies = [0u8; 16384];
     let mut s = dialogue::start();
@@ -60,22 +103,32 @@ fn converse() -> Dialogue {
     let mut rounds = u64::MAX;
     while rounds > 0 {
         let r = exchange(s, &mut buffer, have, &mut replies);
-        let next = r.dialogue;
-        s = next;
+        let dialogue = r.dialogue;
+        let next = r.next;
+        s = dialogue;
         have = r.have;
-        if !r.goes_on {
-            return s;
-        }
+        let Next::Round = next else {
+            return r;
+        };
         rounds -= 1;
     }
-    s
+    Round {
+        dialogue: s,
+        have,
+        next: Next::End,
+    }
 }
 
 fn main() {
-    let s = converse();
-    let stage = s.stage;
+    let last = converse();
+    let dialogue = last.dialogue;
+    let stage = dialogue.stage;
+    let next = last.next;
+    let Next::End = next else {
+        return;
+    };
     if let Stage::Refused(number) = dialogue::finish(stage) {
         let reply = dialogue::refuse(number);
-        io::write_all(STDOUT_FILENO, &reply);
+        write_out(&reply);
     }
 }

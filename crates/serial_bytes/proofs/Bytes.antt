@@ -1,9 +1,9 @@
 -- Demand 3 over bytes: what is read from the wire is the trace of the requests that were answered.
 -- Assumes nothing.
-use Prim.Native.Nat.{ℕ, zero, suc, _+_, _*_, _<_}
+use Prim.Native.Nat.{ℕ, zero, suc, _+_, _*_}
 use mathlib.Core.Path.{_≡_, refl, sym, ap, ap₂, _∙_}
 use mathlib.Core.List.{List, [], _∷_, _++_, append-assoc}
-use lib.ListN.{getD, drop}
+use lib.ListN.{drop}
 use lib.Seq.{getD-drop}
 use Rattle.house.specs.declared.House.{House}
 use Rattle.house.specs.declared.Reply.{Reply}
@@ -18,14 +18,11 @@ use Rattle.wire.proofs.RoundTrip.{reply-read-back}
 use Rattle.desk.specs.Turn.{requests, wired, share, housed, turned, answered}
 use Rattle.serial.specs.Demand.{trace, Demand3}
 use Rattle.serial.proofs.Demand.{trace-append, demand}
-use Rattle.serial_bytes.specs.Bytes.{Given, taken, afterTurns, exchanged, events, InBytes, Demand3OverBytes, OverBytes}
+use Rattle.serial_bytes.specs.Bytes.{Given, taken, afterTurns, exchanged, events, Bytes, InBytes, Demand3OverBytes, OverBytes}
 use Rattle.serial_bytes.proofs.Range.{Fits, step-fits, opening-fits, request-fits}
 
-abbrev pub Small : List ℕ → Type 0
-Small b = (k : ℕ) → getD b k 0 < 256
-
-pub small-drop : (n : ℕ) (b : List ℕ) → Small b → Small (drop n b)
-small-drop n b s k = rw (getD-drop n b k 0) (s (n + k))
+pub bytes-drop : (n : ℕ) (b : List ℕ) → Bytes b → Bytes (drop n b)
+bytes-drop n b s k = rw (getD-drop n b k 0) (s (n + k))
 
 -- a reply before others
 reply-first : (r : Reply) (rest : List ℕ) → FitReply r → replyAt (replyBytes r ++ rest) 0 ≡ r
@@ -38,12 +35,12 @@ drop-reply r rest = refl
 
 -- ONE TURN
 
-turn-fits : (n : ℕ) (h : House) (input : List ℕ) → Fits h → Small input → Fits (housed n h input)
+turn-fits : (n : ℕ) (h : House) (input : List ℕ) → Fits h → Bytes input → Fits (housed n h input)
 unfolding requests finally
 turn-fits zero h input f s = f
-turn-fits (suc n) h input f s = turn-fits n (stepped h (requestAt input 0) .house) (drop 12 input) (step-fits f _ (request-fits input s) .0) (small-drop 12 input s)
+turn-fits (suc n) h input f s = turn-fits n (stepped h (requestAt input 0) .house) (drop 12 input) (step-fits f _ (request-fits input s) .0) (bytes-drop 12 input s)
 
-pub turn-trace : (n : ℕ) (h : House) (input rest : List ℕ) → Fits h → Small input → exchanged n input (wired (replies h (requests n input)) ++ rest) ≡ trace h (requests n input)
+pub turn-trace : (n : ℕ) (h : House) (input rest : List ℕ) → Fits h → Bytes input → exchanged n input (wired (replies h (requests n input)) ++ rest) ≡ trace h (requests n input)
 unfolding exchanged requests wired replies trace
 turn-trace zero h input rest f s = refl
 turn-trace (suc n) h input rest f s =
@@ -51,7 +48,7 @@ turn-trace (suc n) h input rest f s =
     let k = step-fits f (requestAt input 0) (request-fits input s) in
     let more = wired (replies (o .house) (requests n (drop 12 input))) in
     rw (append-assoc (replyBytes (o .reply)) more rest, reply-first (o .reply) (more ++ rest) (k .1), drop-reply (o .reply) (more ++ rest))
-    (ap (λ l. (requestAt input 0, o .reply) ∷ l) (turn-trace n (o .house) (drop 12 input) rest (k .0) (small-drop 12 input s)))
+    (ap (λ l. (requestAt input 0, o .reply) ∷ l) (turn-trace n (o .house) (drop 12 input) rest (k .0) (bytes-drop 12 input s)))
 
 -- ALL TURNS
 

@@ -20,14 +20,16 @@ use Rattle.desk.specs.Turn.{requests, wired}
 use Rattle.desk.proofs.Laws.{length-wired}
 use Rattle.dialogue.specs.Dialogue.{announced, refusal}
 use Rattle.dialogue.specs.Pieces.{runOf, programmed, joined}
+use Rattle.dialogue.specs.Rounds.{brought}
 use Rattle.dialogue.proofs.Pieces.{in-pieces}
+use Rattle.dialogue.proofs.Rounds.{as-programmed}
 use Rattle.reach.proofs.Opened.{opening-cases}
 use Rattle.serial.specs.Demand.{Event, trace, row, work, commits, answers, serially, table, Demand3}
 use Rattle.serial.proofs.Demand.{demand}
-use Rattle.serial_bytes.specs.Bytes.{exchanged}
-use Rattle.serial_bytes.specs.Pieces.{seen, blankTable, Demand3OverPieces, OverPieces}
+use Rattle.serial_bytes.specs.Bytes.{exchanged, Bytes}
+use Rattle.serial_bytes.specs.Pieces.{seen, blankTable, Demand3Seen, OverPieces, OverRounds}
 use Rattle.serial_bytes.proofs.Range.{opening-fits}
-use Rattle.serial_bytes.proofs.Bytes.{Small, small-drop, turn-trace}
+use Rattle.serial_bytes.proofs.Bytes.{bytes-drop, turn-trace}
 
 -- the demand, of these events
 abbrev Equal : List Event → House → Type 0
@@ -70,19 +72,19 @@ refused-equal input n levels d = idle _ (opening levels .house) (refused-idle _ 
 
 -- THE OPENING WAS DONE
 
-opened-equal : (input levels : List ℕ) → Small input → Equal (seen input (runOf (opening levels .house) (drop (announced input + 1) input) .0)) (runOf (opening levels .house) (drop (announced input + 1) input) .1)
+opened-equal : (input levels : List ℕ) → Bytes input → Equal (seen input (runOf (opening levels .house) (drop (announced input + 1) input) .0)) (runOf (opening levels .house) (drop (announced input + 1) input) .1)
 unfolding seen runOf Demand3
 opened-equal input levels s =
     let h = opening levels .house in
     let asked = drop (announced input + 1) input in
     let n = length asked / 12 in
     let all : min n (length (wired (replies h (requests n asked))) / 16) ≡ n = rw (length-wired h n asked) (omega arith) in
-    let t : exchanged n asked (wired (replies h (requests n asked))) ≡ trace h (requests n asked) = rw (append-nil (wired (replies h (requests n asked)))) at (turn-trace n h asked [] (opening-fits levels) (small-drop (announced input + 1) input s)) in
+    let t : exchanged n asked (wired (replies h (requests n asked))) ≡ trace h (requests n asked) = rw (append-nil (wired (replies h (requests n asked)))) at (turn-trace n h asked [] (opening-fits levels) (bytes-drop (announced input + 1) input s)) in
     rw (all, t, sym (opening-blank levels)) (demand levels (requests n asked))
 
 -- THE THEOREM
 
-programmed-equal : (input : List ℕ) → Small input → Equal (seen input (programmed input .0)) (programmed input .1)
+programmed-equal : (input : List ℕ) → Bytes input → Equal (seen input (programmed input .0)) (programmed input .1)
 unfolding programmed
 programmed-equal input s =
     let n = announced input in
@@ -97,5 +99,9 @@ programmed-equal input s =
     ]
 
 pub over-pieces : OverPieces
-unfolding Demand3OverPieces
+unfolding Demand3Seen
 over-pieces ps r s = rw (in-pieces ps r) (programmed-equal (joined ps) s)
+
+pub over-rounds : OverRounds
+unfolding Demand3Seen
+over-rounds buffer room r rs rd s = rw (as-programmed buffer room r rs rd) (programmed-equal (brought rs) s)

@@ -36,10 +36,13 @@ unfoldable pub events : House → List Given → List Event
 events h [] = []
 events h (g ∷ gs) = exchanged (taken h g .count) (g .input) (answered h (g .input) (g .room) (g .most)) ++ events (taken h g .house) gs
 
--- what is given are bytes
+-- each number is that of a byte
+abbrev pub Bytes : List ℕ → Type 0
+Bytes b = (k : ℕ) → getD b k 0 < 256
+
 unfoldable pub InBytes : List Given → Type 0
 InBytes [] = Unit {0}
-InBytes (g ∷ gs) = ((k : ℕ) → getD (g .input) k 0 < 256) × InBytes gs
+InBytes (g ∷ gs) = Bytes (g .input) × InBytes gs
 
 -- "run alone, one after another in the order of their commits, on a plain table, the committed transactions read what the desk
 -- answered them, and the table ends as the committed items do"

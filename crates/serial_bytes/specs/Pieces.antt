@@ -1,13 +1,16 @@
--- Demand 3 over a whole dialogue, from its opening to the end of the input, in whatever pieces that comes.
+-- Demand 3 over a whole dialogue, from its opening to the end of the input: in whatever pieces that comes, and of the program,
+-- round after round.
 -- Assumes nothing. Proved in proofs/Pieces.antt.
-use Prim.Native.Nat.{ℕ, _+_, _/_, _<_, min}
+use Prim.Native.Nat.{ℕ, _+_, _/_, min}
 use mathlib.Core.Path.{_≡_}
 use mathlib.Core.List.{List, [], map}
-use lib.ListN.{length, getD, drop, replicate}
+use lib.ListN.{length, drop, replicate}
+use Rattle.house.specs.declared.House.{House}
 use Rattle.dialogue.specs.Dialogue.{announced, started}
 use Rattle.dialogue.specs.Pieces.{Piece, joined, conversed, Roomy}
+use Rattle.dialogue.specs.Rounds.{Read, brought, told, Reads, Room}
 use Rattle.serial.specs.Demand.{Event, Table, work, commits, answers, serially, table}
-use Rattle.serial_bytes.specs.Bytes.{exchanged}
+use Rattle.serial_bytes.specs.Bytes.{exchanged, Bytes}
 
 -- what was asked and answered, read from the bytes in and out alone: past the opening, each whole request with its reply. The one
 -- reply to a refused opening may be read so too; it is no reply of a done request
@@ -20,13 +23,19 @@ seen input output =
 abbrev pub blankTable : Table
 blankTable = replicate 64 (0, 0)
 
--- what was written for these pieces, and the house at the end, stand in `conversed`
-unfoldable pub Demand3OverPieces : List Piece → Type 0
-Demand3OverPieces ps =
-    let end = conversed started [] ps in
-    let es = seen (joined ps) (end .0) in
+-- of the input, what was written, and the house at the end: "run alone, one after another in the order of their commits, on a
+-- plain table, the committed transactions read what the desk answered them, and the table ends as the committed items do"
+unfoldable pub Demand3Seen : List ℕ → List ℕ × House → Type 0
+Demand3Seen input end =
+    let es = seen input (end .0) in
     serially blankTable (map (λ n. work n es) (commits es)) ≡ (map (λ n. answers (work n es)) (commits es), table (end .1))
 
--- THE STATEMENT: of every input, refused openings included, in any pieces, with room for the replies to each
+-- THE STATEMENTS
+
+-- of every input, refused openings included, in any pieces, with room for the replies to each
 abbrev pub OverPieces : Type 0
-OverPieces = (ps : List Piece) → Roomy started [] ps → ((k : ℕ) → getD (joined ps) k 0 < 256) → Demand3OverPieces ps
+OverPieces = (ps : List Piece) → Roomy started [] ps → Bytes (joined ps) → Demand3Seen (joined ps) (conversed started [] ps)
+
+-- of the program, with a buffer and reply bytes such as it has, whatever its reads bring
+abbrev pub OverRounds : Type 0
+OverRounds = (buffer room : List ℕ) → Room buffer room → (rs : List Read) → Reads started buffer 0 room rs → Bytes (brought rs) → Demand3Seen (brought rs) (told started buffer 0 room rs)

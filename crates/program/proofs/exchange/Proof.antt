@@ -1,17 +1,21 @@
-use Prim.Native.Nat.{_≤_}
+use Prim.Native.Nat.{_<_, _≤_}
 use native.Mathlib.Omega.{arith}
-use mathlib.Core.Path.{sym, subst}
+use mathlib.Core.Path.{sym}
 use lib.ListN.{length}
 use lib.Seq.{length-take-le}
 use borrow.Author.Needs.{needs}
-use Rattle.dialogue.proofs.Keeping.{kept-within}
-use Rattle.dialogue.proofs.Laws.{Within, fed-within}
+use Rattle.dialogue.specs.Rounds.{Room}
+use Rattle.dialogue.proofs.Rounds.{hearing}
 use Rattle.program.proofs.exchange.Statement.{statement}
 use Rattle.program.proofs.exchange.Tie as tie
 
--- the replies that were written are there
-within : (c : tie.After-feed) → c .feed .result .written ≤ length (c .feed .last .1 .1 .0)
-within c = subst Within (sym (c .feed .ensures)) (fed-within _ _ _ _)
+-- the buffer is not full, and the room is there still
+heard : (c : tie.After-hear) → (c .hear .result .have < length (c .hear .last .1 .0)) × Room (c .hear .last .1 .0) (c .hear .last .1 .1 .1 .1 .0) × (c .hear .result .written ≤ length (c .hear .last .1 .1 .1 .1 .0))
+heard c = hearing _ _ _ _ _ (omega arith, omega arith) _ _ _ (c .hear .ensures)
+
+-- where the call was made, seen from the first place that looks back at it
+abbrev hearing-at : tie.After-dialogue → tie.After-hear
+hearing-at c = c .before .before .before .before .before
 
 sub-read : tie.Need-sub-read
 sub-read c = search needs
@@ -24,6 +28,9 @@ part-read-end c = search needs
 
 read-requires : tie.Need-read-requires
 read-requires c κs = search needs
+
+after-no-bytes-requires : tie.Need-after-no-bytes-requires
+after-no-bytes-requires c κs = search needs
 
 same-length : tie.Need-same-length
 same-length c = search needs
@@ -43,38 +50,20 @@ part-count-end c = search needs
 count-requires : tie.Need-count-requires
 count-requires c κs = search needs
 
-add-end : tie.Need-add-end
-add-end c = search needs
+hear-requires : tie.Need-hear-requires
+hear-requires c κs = search needs
 
-slice-reshare-prefix-feed : tie.Need-slice-reshare-prefix-feed
-slice-reshare-prefix-feed c = search needs
+slice-reshare-prefix-write-out : tie.Need-slice-reshare-prefix-write-out
+slice-reshare-prefix-write-out c = heard (hearing-at c) .2
 
-slice-aggregate-feed : tie.Need-slice-aggregate-feed
-slice-aggregate-feed c = sym (length-take-le _ _ (omega arith))
+slice-aggregate-write-out : tie.Need-slice-aggregate-write-out
+slice-aggregate-write-out c = sym (length-take-le _ _ (heard (hearing-at (c .before)) .2))
 
-feed-requires : tie.Need-feed-requires
-feed-requires c κs = search needs
+write-out-requires : tie.Need-write-out-requires
+write-out-requires c κs = search needs
 
-slice-reshare-prefix-write-all : tie.Need-slice-reshare-prefix-write-all
-slice-reshare-prefix-write-all c = within (c .before .before .before)
-
-slice-aggregate-write-all : tie.Need-slice-aggregate-write-all
-slice-aggregate-write-all c = sym (length-take-le _ _ (within (c .before .before .before .before)))
-
-write-all-requires : tie.Need-write-all-requires
-write-all-requires c κs = search needs
-
-slice-relend-prefix-keep : tie.Need-slice-relend-prefix-keep
-slice-relend-prefix-keep c = search needs
-
-slice-aggregate-keep : tie.Need-slice-aggregate-keep
-slice-aggregate-keep c = sym (length-take-le _ _ (omega arith))
-
-keep-requires : tie.Need-keep-requires
-keep-requires c κs = search needs
-
-is-refused-requires : tie.Need-is-refused-requires
-is-refused-requires c κs = search needs
+after-replies-requires : tie.Need-after-replies-requires
+after-replies-requires c κs = search needs
 
 same-length-2 : tie.Need-same-length-2
 same-length-2 c = search needs
@@ -83,7 +72,7 @@ same-length-3 : tie.Need-same-length-3
 same-length-3 c = search needs
 
 returns-2 : tie.Need-returns-2
-returns-2 c = kept-within _ _ (c .before .before .before .keep .ensures) _
+returns-2 c = let h = heard (hearing-at (c .before .before .before)) in (h .0, h .1)
 
 pub exchange-spec : {M : Type 1} → statement M
 exchange-spec =
@@ -93,23 +82,18 @@ exchange-spec =
     part-read-start
     part-read-end
     read-requires
+    after-no-bytes-requires
     same-length
     returns
     sub-count
     part-count-start
     part-count-end
     count-requires
-    add-end
-    slice-reshare-prefix-feed
-    slice-aggregate-feed
-    feed-requires
-    slice-reshare-prefix-write-all
-    slice-aggregate-write-all
-    write-all-requires
-    slice-relend-prefix-keep
-    slice-aggregate-keep
-    keep-requires
-    is-refused-requires
+    hear-requires
+    slice-reshare-prefix-write-out
+    slice-aggregate-write-out
+    write-out-requires
+    after-replies-requires
     same-length-2
     same-length-3
     returns-2)
