@@ -81,10 +81,11 @@ fn compare_one(command: &str, input: &[u8], ours: &[u8]) -> Result<(), Stop> {
     let mut program = Program::start(command)?;
     program.send_all_and_close(input.to_vec())?;
     let theirs = program.receive_rest(ours.len(), PATIENCE).map_err(Stop::Found)?;
-    match explain(input, ours, &theirs) {
-        Some(difference) => Err(Stop::Found(difference)),
-        None => program.check_end().map_err(Stop::Found),
-    }
+    let Some(difference) = explain(input, ours, &theirs) else {
+        return program.check_end().map_err(Stop::Found);
+    };
+    let end = program.failed_end().unwrap_or_default();
+    Err(Stop::Found(format!("{}\n{end}", difference.trim_end())))
 }
 
 /// The first difference in words, if there is one.

@@ -12,8 +12,8 @@ use std::time::{Duration, Instant};
 /// How long a reply may take before the program counts as silent.
 pub const PATIENCE: Duration = Duration::from_secs(if cfg!(test) { 1 } else { 10 });
 
-/// What a panic in a Rust program leaves as its exit status.
-const PANIC_STATUS: i32 = 101;
+/// How long a program that has closed a pipe, or was only just started, may take to end.
+const MOMENT: Duration = Duration::from_millis(200);
 
 pub struct Program {
     child: Child,
@@ -43,10 +43,18 @@ impl Program {
         Ok(Program { child, input, output, arrived: Vec::new() })
     }
 
+    /// A desk waits for its input. A program that ends before any has come takes no house.
+    pub fn check_waits(&mut self) -> Result<(), String> {
+        match self.end_within(MOMENT)? {
+            Some(status) => Err(words_for_end(status)),
+            None => Ok(()),
+        }
+    }
+
     pub fn send(&mut self, bytes: &[u8]) -> Result<(), String> {
         let input = self.input.as_mut().ok_or("its input is closed already")?;
         let sent = input.write_all(bytes).and_then(|()| input.flush());
-        sent.map_err(|error| format!("the program takes no more input: {error}"))
+        sent.map_err(|error| self.with_end(format!("it takes no more input: {error}")))
     }
 
     pub fn close_input(&mut self) {
@@ -75,7 +83,8 @@ impl Program {
                     return Err(format!("{so_far} of {count} bytes came within {seconds} s"));
                 }
                 Err(RecvTimeoutError::Disconnected) => {
-                    return Err(format!("its output ended after {so_far} of {count} bytes"));
+                    let what = format!("its output ended after {so_far} of {count} bytes");
+                    return Err(self.with_end(what));
                 }
             }
         }
@@ -135,20 +144,40 @@ impl Program {
         Ok(std::mem::take(&mut self.arrived))
     }
 
-    /// Waits for the end of a program whose output has ended; says so if it crashed.
-    /// The exit status is left open by document 01, so only a crash counts.
+    /// Waits for the end of a program whose output has ended. Only exit status 0 says that all
+    /// is well.
     pub fn check_end(&mut self) -> Result<(), String> {
-        let deadline = Instant::now() + PATIENCE;
+        match self.end_within(PATIENCE)? {
+            Some(status) => check_status(status),
+            None => Err("it ended its output but does not stop".to_string()),
+        }
+    }
+
+    /// How it failed, if it ends within a moment and failed.
+    pub fn failed_end(&mut self) -> Option<String> {
+        let status = self.end_within(MOMENT).ok().flatten()?;
+        check_status(status).err()
+    }
+
+    /// What went wrong, and how the program ended where that is known.
+    fn with_end(&mut self, what: String) -> String {
+        match self.end_within(MOMENT) {
+            Ok(Some(status)) => format!("{what}; {}", words_for_end(status)),
+            Ok(None) | Err(_) => what,
+        }
+    }
+
+    fn end_within(&mut self, time: Duration) -> Result<Option<ExitStatus>, String> {
+        let deadline = Instant::now() + time;
         let mut pause = Duration::from_micros(20);
         while Instant::now() < deadline {
             match self.child.try_wait() {
-                Ok(Some(status)) => return check_status(status),
                 Ok(None) => thread::sleep(pause),
-                Err(error) => return Err(format!("cannot wait for it: {error}")),
+                ended => return ended.map_err(|error| format!("cannot wait for it: {error}")),
             }
             pause = (pause * 2).min(Duration::from_millis(10));
         }
-        Err("it ended its output but does not stop".to_string())
+        Ok(None)
     }
 }
 
@@ -183,9 +212,51 @@ fn pass_on(mut pipe: impl Read, sender: SyncSender<Vec<u8>>) {
 }
 
 fn check_status(status: ExitStatus) -> Result<(), String> {
+    if status.success() {
+        Ok(())
+    } else {
+        Err(words_for_end(status))
+    }
+}
+
+fn words_for_end(status: ExitStatus) -> String {
     match status.code() {
-        Some(PANIC_STATUS) => Err("it panicked".to_string()),
-        Some(_) => Ok(()),
-        None => Err(format!("it crashed: {status}")),
+        Some(code) => format!("it ended with exit status {code}"),
+        None => format!("it crashed: {status}"),
+    }
+}
+
+#[cfg(test)]
+mod tests {
+    use super::*;
+
+    fn started(command: &str) -> Program {
+        Program::start(command).expect(command)
+    }
+
+    #[test]
+    fn only_status_0_is_a_good_end() {
+        assert_eq!(started("true").finish(), Ok(()));
+        assert_eq!(started("false").finish(), Err("it ended with exit status 1".to_string()));
+        let mut killed = started("cat");
+        killed.child.kill().expect("it runs");
+        let end = killed.finish().expect_err("a crash");
+        assert!(end.contains("it crashed: signal: 9"), "{end}");
+    }
+
+    #[test]
+    fn a_lost_program_is_told_with_its_status() {
+        let lost = started("false").receive(1).expect_err("no byte");
+        assert_eq!(lost, "its output ended after 0 of 1 bytes; it ended with exit status 1");
+        let mut spent = started("false");
+        assert_eq!(spent.check_end(), Err("it ended with exit status 1".to_string()));
+        let lost = spent.send(&[0]).expect_err("a closed pipe");
+        assert!(lost.ends_with("; it ended with exit status 1"), "{lost}");
+    }
+
+    #[test]
+    fn a_program_that_waits_is_told_from_one_that_ends() {
+        assert_eq!(started("cat").check_waits(), Ok(()));
+        assert_eq!(started("true").failed_end(), None);
     }
 }

@@ -47,6 +47,8 @@ pub enum Manner {
 struct Talk<'a, W> {
     /// The program to talk to, or None to use the peer's own desk.
     command: Option<&'a str>,
+    /// Started, and waiting for its house.
+    ready: Option<Program>,
     house: Option<House>,
     out: W,
     /// All bytes sent and received.
@@ -69,14 +71,14 @@ pub fn talk(
     out: impl Write,
     manner: Manner,
 ) -> Result<(), Stop> {
-    let mut talk = Talk::new(command, out);
+    let mut talk = Talk::new(command, out)?;
     talk.converse(lines, manner)?;
     talk.sum_up()
 }
 
 /// Plays document 01's day and checks that its bytes are those of the document.
 pub fn day(command: Option<&str>, out: impl Write) -> Result<(), Stop> {
-    let mut talk = Talk::new(command, out);
+    let mut talk = Talk::new(command, out)?;
     talk.converse(DAY_WORDS.as_bytes(), Manner::Echo)?;
     if talk.sent != DAY_INPUT || talk.received != DAY_OUTPUT {
         return Err(Stop::Found("these are not the bytes of document 01's day".to_string()));
@@ -86,9 +88,11 @@ pub fn day(command: Option<&str>, out: impl Write) -> Result<(), Stop> {
 }
 
 impl<'a, W: Write> Talk<'a, W> {
-    fn new(command: Option<&'a str>, out: W) -> Talk<'a, W> {
+    /// Starts the program at once: one that cannot be talked to is told before any prompt.
+    fn new(command: Option<&'a str>, out: W) -> Result<Talk<'a, W>, Stop> {
+        let ready = start(command)?;
         let (sent, received) = (Vec::new(), Vec::new());
-        Talk { command, house: None, out, sent, received, requests: 0, differences: 0 }
+        Ok(Talk { command, ready, house: None, out, sent, received, requests: 0, differences: 0 })
     }
 
     fn converse(&mut self, mut lines: impl BufRead, manner: Manner) -> Result<(), Stop> {
@@ -152,10 +156,13 @@ impl<'a, W: Write> Talk<'a, W> {
         }
     }
 
-    /// Each opening starts a desk anew, and the program with it.
+    /// Each opening has a desk of its own, and a program of its own.
     fn open(&mut self, levels: &[u8]) -> Result<(), Stop> {
         self.close_house()?;
-        let mut program = self.command.map(Program::start).transpose()?;
+        let mut program = match self.ready.take() {
+            None => start(self.command)?,
+            ready => ready,
+        };
         let header = [&[levels.len() as u8], levels].concat();
         if let Some(Err(message)) = program.as_mut().map(|program| program.send(&header)) {
             return self.lose_program(&message);
@@ -248,6 +255,17 @@ impl<'a, W: Write> Talk<'a, W> {
         }
         Ok(())
     }
+}
+
+/// A program that waits for its house.
+fn start(command: Option<&str>) -> Result<Option<Program>, Stop> {
+    let Some(command) = command else {
+        return Ok(None);
+    };
+    let mut program = Program::start(command)?;
+    let waits = program.check_waits();
+    waits.map_err(|end| Stop::Cannot(format!("'{command}' takes no house: {end}")))?;
+    Ok(Some(program))
 }
 
 fn list(levels: &[u8]) -> String {

@@ -1,6 +1,8 @@
 //! The commands as a person or a build calls them, and that the checks are able to fail.
 
+use std::fs;
 use std::io::Write;
+use std::path::Path;
 use std::process::{Command, Output, Stdio};
 
 const PEER: &str = env!("CARGO_BIN_EXE_peer");
@@ -17,8 +19,21 @@ fn peer_with_input(arguments: &[&str], input: &[u8]) -> Output {
         .stderr(Stdio::null())
         .spawn()
         .expect("the peer starts");
-    child.stdin.take().expect("a pipe").write_all(input).expect("it reads");
+    // It may end before it reads; what it says is what counts.
+    let _ = child.stdin.take().expect("a pipe").write_all(input);
     child.wait_with_output().expect("it ends")
+}
+
+/// A file for one test, and its path.
+fn file(name: &str, content: &str) -> String {
+    let path = Path::new(env!("CARGO_TARGET_TMPDIR")).join(name);
+    fs::write(&path, content).expect("a file that can be written");
+    path.to_string_lossy().into_owned()
+}
+
+/// A program of these lines, run by the shell.
+fn script(name: &str, lines: &str) -> String {
+    format!("sh {}", file(name, lines))
 }
 
 /// Checks the exit status and that all of `wanted` is said on either stream.
@@ -60,6 +75,17 @@ fn compare_finds_programs_that_are_no_desk() {
 }
 
 #[test]
+fn right_bytes_with_a_wrong_end_are_found() {
+    let program = script("ends_with_3", &format!("'{PEER}' run; exit 3"));
+    let wanted = ["it ended with exit status 3"];
+    assert_says(&["compare", &program, "3", "10"], 1, &wanted);
+    assert_says(&["converse", &program], 1, &wanted);
+    assert_says(&["talk", "--day", &program], 1, &wanted);
+    let told = script("says_nothing", "exit 2");
+    assert_says(&["compare", &told, "3", "10"], 1, &["the program: nothing", "exit status 2"]);
+}
+
+#[test]
 fn converse_and_talk_find_a_slip() {
     let program = format!("{PEER} slip 1");
     assert_says(&["converse", &program], 1, &["value (peer: 0, program: 1)"]);
@@ -68,6 +94,23 @@ fn converse_and_talk_find_a_slip() {
     let output = peer_with_input(&["talk", &program], lines);
     assert_eq!(output.status.code(), Some(1));
     assert!(String::from_utf8_lossy(&output.stdout).contains("DIFFERS"));
+}
+
+#[test]
+fn talk_tells_a_program_that_does_not_start_before_anything_else() {
+    let no_house = script("takes_no_house", "exit 2");
+    for (program, wanted) in [
+        ("./no-such", "cannot start './no-such': No such file or directory"),
+        (&no_house, "takes no house: it ended with exit status 2"),
+    ] {
+        assert_says(&["talk", program], 2, &[wanted]);
+        assert_says(&["talk", "--day", program], 2, &[wanted]);
+        for lines in ["open 0\n", "help\n"] {
+            let output = peer_with_input(&["talk", program], lines.as_bytes());
+            assert_eq!(output.status.code(), Some(2), "{program}, {lines}");
+            assert!(output.stdout.is_empty(), "{program}, {lines}");
+        }
+    }
 }
 
 #[test]
