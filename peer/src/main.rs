@@ -6,6 +6,7 @@ mod converse;
 mod cover;
 mod desk;
 mod generator;
+mod guide;
 mod program;
 mod progress;
 mod rng;
@@ -45,11 +46,16 @@ usage: peer COMMAND
   cover SEEDS N                  count the replies that gen's inputs meet
   talk [PROGRAM]                 type requests in words, see replies in words
   talk --day [PROGRAM]           play document 01's day at the desk
+  guide FILE [PROGRAM]           play the recipes of a guide, its blocks fenced as 'talk';
+                                 every byte and word must be as the guide says
+  guide --write FILE [PROGRAM]   write the guide with each recipe's transcript made anew, to
+                                 standard output, which must not be FILE itself
   slip K                         run, with slip K of document 01 (1 to 6) made on purpose,
                                  to see that the checks can fail
   help                           this text
 
-PROGRAM is a path, or a path and arguments in one word: 'target/release/peer run'.
+PROGRAM is a path, or a path and arguments in one word: 'target/release/peer run'. It has to
+end with exit status 0. Where it is left out, the peer's own desk answers.
 Exit status: 0 all is well, 1 a check found something, 2 wrong usage or a failed start.
 ";
 
@@ -99,6 +105,10 @@ fn dispatch(words: &[&str]) -> Result<(), Stop> {
         ["talk", "--day", program] => talk::day(Some(program), out),
         ["talk"] => talk::talk_here(None),
         ["talk", program] => talk::talk_here(Some(program)),
+        ["guide", "--write", file] => guide::rewrite(file, None, &mut out),
+        ["guide", "--write", file, program] => guide::rewrite(file, Some(program), &mut out),
+        ["guide", file] if file != "--write" => guide::play(file, None, &mut out),
+        ["guide", file, program] => guide::play(file, Some(program), &mut out),
         _ => Err(usage(words)),
     }
 }

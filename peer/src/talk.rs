@@ -76,6 +76,24 @@ pub fn talk(
     talk.sum_up()
 }
 
+/// A talk that was played, without the sentence that sums it up.
+#[derive(Debug)]
+pub struct Played {
+    pub transcript: String,
+    pub requests: u64,
+    pub differences: u64,
+}
+
+/// Plays these lines of words.
+pub fn play(command: Option<&str>, lines: &str) -> Result<Played, Stop> {
+    let mut transcript = Vec::new();
+    let mut talk = Talk::new(command, &mut transcript)?;
+    talk.converse(lines.as_bytes(), Manner::Echo)?;
+    let Talk { requests, differences, .. } = talk;
+    let transcript = String::from_utf8_lossy(&transcript).into_owned();
+    Ok(Played { transcript, requests, differences })
+}
+
 /// Plays document 01's day and checks that its bytes are those of the document.
 pub fn day(command: Option<&str>, out: impl Write) -> Result<(), Stop> {
     let mut talk = Talk::new(command, out)?;

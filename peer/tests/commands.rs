@@ -114,6 +114,27 @@ fn talk_tells_a_program_that_does_not_start_before_anything_else() {
 }
 
 #[test]
+fn guide_plays_recipes() {
+    let own = format!("{PEER} run");
+    let words = file("words.md", "```talk\n> open 0\n> begin 0\n> commit 0 #1\n```\n");
+    let output = peer(&["guide", "--write", &words, &own]);
+    assert_eq!(output.status.code(), Some(0));
+    let text = String::from_utf8_lossy(&output.stdout);
+    let good = file("good.md", &text);
+    let wanted = ["played 1 recipes, 2 requests: every byte as the guide says"];
+    assert_says(&["guide", &good], 0, &wanted);
+    assert_says(&["guide", &good, &own], 0, &wanted);
+    assert_says(&["guide", &good, "./no-such"], 2, &["cannot start './no-such'"]);
+    assert_says(&["guide", &words], 1, &["words.md: line 3", "now is said:       opening  01 00"]);
+    let wrong = file("wrong.md", &text.replace("reply    09", "reply    08"));
+    assert_says(&["guide", &wrong, &own], 1, &["wrong.md: line 9", "reply    08", "reply    09"]);
+    let empty = file("empty.md", "A guide without recipes.\n");
+    assert_says(&["guide", &empty], 2, &["empty.md: there is no recipe"]);
+    assert_says(&["guide", "no-such.md"], 2, &["cannot read 'no-such.md'"]);
+    assert_says(&["guide", "--write"], 2, &["wrong usage of guide", "guide --write FILE"]);
+}
+
+#[test]
 fn wrong_usage_is_told() {
     assert_says(&[], 2, &["a command is missing"]);
     assert_says(&["dance"], 2, &["no command 'dance'"]);
