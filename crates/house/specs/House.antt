@@ -95,9 +95,9 @@ isCertified Certified = true
 unfoldable pub freeAt : List Place → ℕ → Bool
 freeAt places p = isFree (placeAt places p .standing)
 
--- the open transaction at place p has that ticket
+-- the open transaction at place p has that ticket. "Ticket 0 names nobody", whatever stands at the place
 unfoldable pub hasTicket : List Place → ℕ → ℕ → Bool
-hasTicket places t p = not (freeAt places p) && eqb (placeAt places p .ticket) t
+hasTicket places t p = not (freeAt places p) && eqb (placeAt places p .ticket) t && not (eqb t 0)
 
 -- "To look a ticket up, the search goes over the eight places of one level and stops at the place found."
 unfoldable pub seek : List Place → ℕ → ℕ → Found

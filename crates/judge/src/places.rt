@@ -1,6 +1,7 @@
 // The searches over the eight places of one level.
 
 ghost use mathlib.Core.Path.{_≡_};
+ghost use mathlib.Core.Logic.{_≢_};
 ghost use Prim.Native.Nat.{_<_};
 ghost use Rattle.house.specs.Search.{find};
 ghost use Rattle.house.specs.House.{isFree, isActive, isCertified, freeAt, hasTicket};
@@ -48,17 +49,20 @@ fn free_at(eight: [Place; 8], k: usize) -> bool
 }
 
 fn has_ticket(eight: [Place; 8], ticket: u32, k: usize) -> bool
-    requires { ⌜ k < 8 ⌝ }
+    requires { ⌜ (k < 8) × (ticket ≢ 0) ⌝ }
     ensures { λ r. ⌜ r ≡ hasTicket eight ticket k ⌝ }
 {
     let place = eight[k];
     !free_at(eight, k) & (place.ticket == ticket)
 }
 
-// The search stops at the place found.
+// The search stops at the place found. Ticket 0 names nobody: it is told once, before the search, not at each place.
 pub(crate) fn lookup(eight: [Place; 8], ticket: u32) -> Found
     ensures { λ r. ⌜ r ≡ find (hasTicket eight ticket) 0 8 ⌝ }
 {
+    if ticket == 0 {
+        return Found::Nobody;
+    }
     let mut k = 0;
     let place = loop {
         if k == 8 {

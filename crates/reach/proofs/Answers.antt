@@ -1,9 +1,9 @@
 -- Demand 1: proofs of the statements in specs/Answers.antt.
 -- Assumes nothing.
-use Prim.Native.Nat.{ℕ, _≤_}
+use Prim.Native.Nat.{ℕ, _*_, _≤_}
 use native.Mathlib.Omega.{arith}
 use mathlib.Core.Path.{_≡_, refl, sym, ap, _∙_}
-use mathlib.Core.Logic.{inl, inr}
+use mathlib.Core.Logic.{_≢_, inl, inr}
 use mathlib.Core.Bool.{Bool, true, false, _&&_}
 use mathlib.Core.List.{List, [], _∷_}
 use lib.Dec.{leb}
@@ -15,16 +15,17 @@ use Rattle.house.specs.declared.Found.the-variants.{At, Nobody}
 use Rattle.house.specs.declared.House.{House}
 use Rattle.house.specs.declared.Outcome.{Outcome}
 use Rattle.house.specs.declared.Request.{Request}
-use Rattle.house.specs.House.{fixed}
+use Rattle.house.specs.Search.{nobody}
+use Rattle.house.specs.House.{fixed, seek}
 use Rattle.house.specs.Checks.{foremost, someApplies}
-use Rattle.house.specs.Rules.{asker, noLevel, unknown, refusals, checks, verdict, readFor, askAnswer, replied}
+use Rattle.house.specs.Rules.{begin, asker, noOperation, noLevel, unusedSet, unknown, refusals, checks, verdict, readFor, askAnswer, replied, stepped}
 use Rattle.house.specs.Opening.{wrongLength, wrongLevel, openVerdict, opening}
 use Rattle.house.proofs.Tests.{is, clash, and-true}
-use Rattle.house.proofs.Places.{seek-at}
-use Rattle.house.proofs.Checks.{none-applies, none-given, first-given}
+use Rattle.house.proofs.Places.{zero-nowhere}
+use Rattle.house.proofs.Checks.{none-applies, none-given, first-given, clear, passes, asker-known}
 use Rattle.house.proofs.Effects.{begun-fixed, read-fixed, written-fixed, certified-fixed, committed-fixed, aborted-fixed}
-use Rattle.reach.specs.Answers.{Stranger, RefusalKeeps, FirstGiven, DoneExactly, NumberStands, OpeningStands, FixedStays, OperationRepeats, StrangerGetsSix, ZeroNamesNobody}
-use Rattle.reach.proofs.Turns.{Turn, refused, waits, begins, reads, writes, certifies, commits, aborts, asks, turn, refused-is, done-is}
+use Rattle.reach.specs.Answers.{Stranger, TurnedDown, RefusalKeeps, FirstGiven, DoneExactly, NumberStands, OpeningStands, FixedStays, OperationRepeats, StrangerRefused, ZeroRefused, StrangerGetsSix, ZeroGetsSix, ZeroNamesNobody}
+use Rattle.reach.proofs.Turns.{Asker, found, Turn, refused, waits, begins, reads, writes, certifies, commits, aborts, asks, turn, refused-is, done-is}
 use Rattle.reach.proofs.Opened.{reachable-has}
 use Rattle.reach.proofs.Guards.{number}
 
@@ -104,19 +105,47 @@ turn-fixed (asks me o A) = refl
 pub fixed-stays : FixedStays
 fixed-stays h q = turn-fixed (turn h q)
 
--- a search that finds the asker finds somebody who is open and has the ticket
-not-found : (h : House) (q : Request) → noLevel q ≡ false → Stranger h q → (who : Found) → asker h q ≡ who → who ≡ Nobody
+-- one that is done and is no begin has found its transaction
+done-found : (h : House) (q : Request) → q .operation ≢ begin → stepped h q .reply .number ≡ 0 → (me : ℕ) × Asker h q me
+done-found h q n e =
+    let z = passes h q (sym (number h q) ∙ e) .0 in
+    let k = asker-known h q n z in
+    (k .0, found (clear h q z .level) (k .1))
+
+-- so one that is not found is turned down
+turned-down : (h : House) (q : Request) → q .operation ≢ begin → ((me : ℕ) → Asker h q me → ⊥) → TurnedDown h q
+turned-down h q n none = let u : stepped h q .reply .number ≢ 0 = λ e. let k = done-found h q n e in none (k .0) (k .1) in (u, refusal-keeps h q u)
+
+-- a stranger is found nowhere, and neither is ticket 0
+
+stranger-elsewhere : (h : House) (q : Request) → Stranger h q → (me : ℕ) → Asker h q me → ⊥
+stranger-elsewhere h q s me A = let k = A .seated in s me (k .within .place) (k .within .level) (k .taken) (k .ticket)
+
+stranger-nobody : (h : House) (q : Request) → noLevel q ≡ false → Stranger h q → (who : Found) → asker h q ≡ who → who ≡ Nobody
 unfolding noLevel
-not-found h q l s Nobody e = refl
-not-found h q l s (At p) e =
-    let k = seek-at (h .places) (q .level) (q .ticket) p (omega (arith, ltb-false 3 (q .level) l)) e in
-    absurd (s p (k .within .place) (k .within .level) (k .taken) (k .ticket))
+stranger-nobody h q l s Nobody e = refl
+stranger-nobody h q l s (At p) e = absurd (stranger-elsewhere h q s p (found (omega (arith, ltb-false 3 (q .level) l)) e))
+
+zero-nobody : (h : House) (q : Request) → q .ticket ≡ 0 → asker h q ≡ Nobody
+unfolding seek
+zero-nobody h q z = rw z (zero-nowhere (h .places) (q .level * 8) 8)
+
+pub stranger-refused : StrangerRefused
+stranger-refused h q n s = turned-down h q n (stranger-elsewhere h q s)
+
+pub zero-refused : ZeroRefused
+zero-refused h q n z = turned-down h q n (λ me A. clash (ap nobody (zero-nobody h q z)) (ap nobody (A .at)))
+
+-- which number that is
+nobody-gets-six : (h : House) (q : Request) → noOperation q ≡ false → noLevel q ≡ false → unusedSet q ≡ false → q .operation ≢ begin → asker h q ≡ Nobody → stepped h q .reply .number ≡ 6
+unfolding verdict checks refusals unknown
+nobody-gets-six h q o l u n none = number h q ∙ rw (o, l, u, ne-eqb (q .operation) 0 n, none)
 
 pub stranger-gets-six : StrangerGetsSix
-unfolding verdict checks refusals unknown
-stranger-gets-six h q o l u n s =
-    let nobody : asker h q ≡ Nobody = not-found h q l s (asker h q) refl in
-    number h q ∙ rw (o, l, u, ne-eqb (q .operation) 0 n, nobody)
+stranger-gets-six h q o l u n s = nobody-gets-six h q o l u n (stranger-nobody h q l s (asker h q) refl)
+
+pub zero-gets-six : ZeroGetsSix
+zero-gets-six h q o l u n z = nobody-gets-six h q o l u n (zero-nobody h q z)
 
 pub zero-names-nobody : ZeroNamesNobody
 zero-names-nobody h R = reachable-has h R .named

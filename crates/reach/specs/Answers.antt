@@ -20,6 +20,10 @@ use Rattle.reach.specs.Kept.{Open}
 abbrev pub Stranger : House → Request → Type 0
 Stranger h q = (p : ℕ) → p < 32 → levelOf p ≡ q .level → Open h p → placeAt (h .places) p .ticket ≢ q .ticket
 
+-- the request gets a number other than 0, and the house is as it was
+abbrev pub TurnedDown : House → Request → Type 0
+TurnedDown h q = (stepped h q .reply .number ≢ 0) × (stepped h q .house ≡ h)
+
 -- THE STATEMENTS, proved in proofs/Answers.antt
 
 -- "Any number but 0 leaves the house as it was."
@@ -49,10 +53,21 @@ FixedStays = (h : House) (q : Request) → fixed (stepped h q .house) ≡ fixed 
 abbrev pub OperationRepeats : Type 0
 OperationRepeats = (h : House) (q : Request) → stepped h q .reply .operation ≡ q .operation
 
+-- No caller is trusted to have looked first: a ticket that nobody open at its level has is refused, and changes nothing
+abbrev pub StrangerRefused : Type 0
+StrangerRefused = (h : House) (q : Request) → q .operation ≢ begin → Stranger h q → TurnedDown h q
+
+-- so is ticket 0: "Ticket 0 names nobody", whatever the places hold
+abbrev pub ZeroRefused : Type 0
+ZeroRefused = (h : House) (q : Request) → q .operation ≢ begin → q .ticket ≡ 0 → TurnedDown h q
+
 -- "Each request for a transaction finds its place or is answered 6", unless 3, 4 or 5 comes first
 abbrev pub StrangerGetsSix : Type 0
 StrangerGetsSix = (h : House) (q : Request) → noOperation q ≡ false → noLevel q ≡ false → unusedSet q ≡ false → q .operation ≢ begin → Stranger h q → stepped h q .reply .number ≡ 6
 
--- "Ticket 0 names nobody."
+abbrev pub ZeroGetsSix : Type 0
+ZeroGetsSix = (h : House) (q : Request) → noOperation q ≡ false → noLevel q ≡ false → unusedSet q ≡ false → q .operation ≢ begin → q .ticket ≡ 0 → stepped h q .reply .number ≡ 6
+
+-- and nobody has it: in a house that can be reached no open transaction's ticket is 0
 abbrev pub ZeroNamesNobody : Type 0
 ZeroNamesNobody = (h : House) → Reachable h → (p : ℕ) → p < 32 → Open h p → placeAt (h .places) p .ticket ≢ 0

@@ -2,6 +2,7 @@ use Prim.Native.Nat.{_-_, _≤_}
 use native.Mathlib.Omega.{arith}
 use mathlib.Core.Path.{_≡_, refl, sym, _∙_}
 use borrow.Author.Needs.{needs}
+use Rattle.house.proofs.Places.{zero-nowhere}
 use Rattle.house.proofs.Searches.{passed, met, ended}
 use Rattle.house.specs.House.{hasTicket}
 use Rattle.house.specs.Search.{find}
@@ -14,14 +15,17 @@ Inv-loop eight ticket k₀ k = (k ≤ 8) × (find (hasTicket eight ticket) 0 8 �
 abbrev μ-loop : tie.MeasureT-loop
 μ-loop eight ticket k₀ k = 8 - k
 
+returns : tie.Need-returns Inv-loop μ-loop
+returns c = sym (rw (c .if1 .taken) (zero-nowhere _ 0 8))
+
 loop-holds : tie.Need-loop-holds Inv-loop μ-loop
 loop-holds c = (omega arith, refl)
 
-returns : tie.Need-returns Inv-loop μ-loop
-returns c = sym (c .before .loop .inv .1 ∙ ended _ _ _ _ _ (omega arith))
+returns-2 : tie.Need-returns-2 Inv-loop μ-loop
+returns-2 c = sym (c .before .loop .inv .1 ∙ ended _ _ _ _ _ (omega arith))
 
 has-ticket-requires : tie.Need-has-ticket-requires Inv-loop μ-loop
-has-ticket-requires c κs = search needs
+has-ticket-requires c κs = (omega arith, c .before .before .if1 .left)
 
 add-k : tie.Need-add-k Inv-loop μ-loop
 add-k c = search needs
@@ -30,10 +34,10 @@ loop-less : tie.Need-loop-less Inv-loop μ-loop
 loop-less c = search needs
 
 loop-again : tie.Need-loop-again Inv-loop μ-loop
-loop-again c = (omega arith, c .before .before .before .loop .inv .1 ∙ passed _ _ _ _ _ (omega arith) (sym (c .before .has-ticket .ensures) ∙ c .if2 .left))
+loop-again c = (omega arith, c .before .before .before .loop .inv .1 ∙ passed _ _ _ _ _ (omega arith) (sym (c .before .has-ticket .ensures) ∙ c .if3 .left))
 
-returns-2 : tie.Need-returns-2 Inv-loop μ-loop
-returns-2 c = sym (c .before .before .before .loop .inv .1 ∙ met _ _ _ _ _ (omega arith) (sym (c .before .has-ticket .ensures) ∙ c .if2 .taken))
+returns-3 : tie.Need-returns-3 Inv-loop μ-loop
+returns-3 c = sym (c .before .before .before .loop .inv .1 ∙ met _ _ _ _ _ (omega arith) (sym (c .before .has-ticket .ensures) ∙ c .if3 .taken))
 
 pub lookup-spec : {M : Type 1} → statement M
 lookup-spec =
@@ -41,10 +45,11 @@ lookup-spec =
     (tie.spec
     Inv-loop
     μ-loop
-    loop-holds
     returns
+    loop-holds
+    returns-2
     has-ticket-requires
     add-k
     loop-less
     loop-again
-    returns-2)
+    returns-3)
