@@ -9,7 +9,8 @@ use Rattle.house.specs.declared.Place.{Place}
 use Rattle.house.specs.declared.Reply.{Reply}
 use Rattle.house.specs.declared.Request.{Request}
 use Rattle.house.specs.declared.Standing.the-variants.{Active}
-use Rattle.examples.specs.Words.{begins, reads, writes, certifies, commits, aborts, asks, readsWith, says, Event, Example, talk, given, expected}
+use Rattle.house.specs.Run.{Event}
+use Rattle.examples.specs.Words.{begins, reads, writes, certifies, commits, aborts, asks, readsWith, says, Example, talk, given, expected}
 
 -- a row of the table; one that also says which places the house then shows
 abbrev shows : List Event → Request → Reply → List (ℕ × Place) → Example

@@ -9,6 +9,7 @@ use Rattle.house.specs.declared.Request.{Request}
 use Rattle.house.specs.House.{placeAt}
 use Rattle.house.specs.Rules.{begin, read, write, certify, commit, abort, ask, stepped}
 use Rattle.house.specs.Opening.{opening}
+use Rattle.house.specs.Run.{Event}
 
 -- Requests, with the fields that each uses
 
@@ -43,9 +44,6 @@ readsWith l t i v = request read l i t v
 -- a whole reply: number, operation, item, ticket, value, version
 abbrev pub says : ℕ → ℕ → ℕ → ℕ → ℕ → ℕ → Reply
 says number operation item ticket value version = record { number = number; operation = operation; item = item; ticket = ticket; value = value; version = version }
-
-abbrev pub Event : Type 0
-Event = Request × Reply
 
 -- An example: from a house opened with these levels, after `before` (each request with the reply that it gets), the request
 -- gets the reply, and the house then shows these places

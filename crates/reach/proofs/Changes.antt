@@ -39,9 +39,9 @@ module _ {h : House} {l me : ℕ} (L : Law h) (K : MayBegin h l me) where
   unfolding begun
   begin-clear i a = L .cells me i (K .place) a .idle (K .empty)
 
-  still-issued : (k t : ℕ) → k < 4 → Issued h k t → Issued (begun h l me) k t
+  still-issued : (k t : ℕ) → Issued h k t → Issued (begun h l me) k t
   unfolding Issued
-  still-issued k t b x =
+  still-issued k t x =
       elim (same k l) [
         | inl e ↦
             rw (e, begun-next (L .sizes) l me (K .level))
@@ -62,6 +62,11 @@ module _ {h : House} {l me : ℕ} (L : Law h) (K : MayBegin h l me) where
         issued = still-issued;
       }
 
+  -- the ticket that it gives
+  pub now-issued : Issued (begun h l me) l (nextAt (h .next) l)
+  unfolding Issued
+  now-issued = rw (begun-next (L .sizes) l me (K .level)) (λ z. elim (after-cases (nextAt (h .next) l)) [ inl g ↦ omega arith | inr g ↦ absurd (z g) ])
+
   pub begin-own : Own h (begun h l me) me
   unfolding Issued
   begin-own =
@@ -70,9 +75,7 @@ module _ {h : House} {l me : ℕ} (L : Law h) (K : MayBegin h l me) where
       let u : placeAt (h .places) p .ticket < nextAt (h .next) l = (rw (k ∙ K .placed) at (L .issued p b x)) (K .ticket) in
       let w : placeAt (h .places) p .ticket ≡ nextAt (h .next) l = rw (begun-place (L .sizes) l me (K .place)) at t in
       omega arith)
-      (λ o.
-      rw (begun-place (L .sizes) l me (K .place), K .placed, begun-next (L .sizes) l me (K .level))
-      (λ z. elim (after-cases (nextAt (h .next) l)) [ inl g ↦ omega arith | inr g ↦ absurd (z g) ]))
+      (λ o. rw (begun-place (L .sizes) l me (K .place), K .placed) now-issued)
 
 -- READ
 
@@ -95,7 +98,7 @@ module _ {h : House} {me i : ℕ} (L : Law h) (K : MayRead h me i) where
         cell = λ p j b a n. spared-same (read-cell-other h me i p j (K .row) a (λ e. absurd (n e)));
         item = λ p j b a n x. (refl, refl);
         row = λ p j b a n x y. refl;
-        issued = λ l t b x. x;
+        issued = λ l t x. x;
       }
 
   pub read-own : Own h (readBy h me i) me
@@ -151,7 +154,7 @@ module _ {h : House} {me i : ℕ} (v : ℕ) (L : Law h) (K : MayWrite h me i) wh
         cell = λ p j b a n. spared-same (written-cell-other h me i v p j (K .row) a (λ e. absurd (n e)));
         item = λ p j b a n x. (refl, elim (same j i) [ inl e ↦ clash x (rw e (K .uncontested p b n)) | inr d ↦ written-pending-other h me i v j d ]);
         row = λ p j b a n x y. refl;
-        issued = λ l t b x. x;
+        issued = λ l t x. x;
       }
 
   pub write-own : Own h (writtenBy h me i v) me
@@ -232,7 +235,7 @@ module _ {h : House} {me : ℕ} (L : Law h) (K : MayCertify h me) where
         cell = λ p i b a n. rw (certified-cell (L .sizes) me p i b a) (others p i a n);
         item = λ p i b a n x. (refl, refl);
         row = λ p i b a n x y. refl;
-        issued = λ l t b x. x;
+        issued = λ l t x. x;
       }
 
   -- my own cell, after it
@@ -300,7 +303,7 @@ module _ {h : House} {me : ℕ} (L : Law h) (K : MayCertify h me) where
             let w = L .warned p me i b m a (λ e. n (sym e)) c (sym (certify-read i a) ∙ r) in
             record { higher = w .higher; signal = certify-signalled i a ∙ w .signal };
         apart = λ p b n o x l t. n (L .apart p me b m x (rw (K .active)) l (t ∙ rw (certified-place (L .sizes) me m)));
-        issued = λ o. rw (certified-place (L .sizes) me m) (certify-frame .issued _ _ (omega arith) (L .issued me m (rw (K .active))));
+        issued = λ o. rw (certified-place (L .sizes) me m) (certify-frame .issued _ _ (L .issued me m (rw (K .active))));
       }
 
 -- COMMIT AND ABORT: the place is left
@@ -336,7 +339,7 @@ module _ {h : House} {me : ℕ} (L : Law h) (m : me < 32) where
         cell = λ p i b a n. spared-same (left-other p i b a n);
         item = λ p i b a n x. (refl, left-stays i a (unheld L me p i m b a (λ e. n (sym e)) x));
         row = λ p i b a n x y. refl;
-        issued = λ l t b x. x;
+        issued = λ l t x. x;
       }
 
   -- a commit is an abort, but for the rows that I hold certify on

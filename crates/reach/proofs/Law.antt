@@ -3,7 +3,6 @@
 -- me's own cells after it, so that the cases "is it me?" are told apart here, once for all operations.
 -- Assumes nothing.
 use Prim.Native.Nat.{ℕ, _<_}
-use native.Mathlib.Omega.{arith}
 use mathlib.Core.Path.{_≡_, sym, ap, _∙_}
 use mathlib.Core.Logic.{_≢_, _⊎_, inl, inr}
 use mathlib.Core.Bool.{Bool, true, false, _||_}
@@ -128,7 +127,7 @@ pub record Frame (h h′ : House) (me : ℕ) : Type 0 where
   pub item : (p i : ℕ) → p < 32 → i < 64 → p ≢ me → held (cellAt (h .cells) p i) ≡ true → (itemAt (h′ .items) i ≡ itemAt (h .items) i) × (pendingAt (h′ .pending) i ≡ pendingAt (h .pending) i)
   -- so is the row that another has read, unless that cell is signalled
   pub row : (p i : ℕ) → p < 32 → i < 64 → p ≢ me → has Read (cellAt (h .cells) p i) ≡ true → has Signalled (cellAt (h′ .cells) p i) ≡ false → itemAt (h′ .items) i ≡ itemAt (h .items) i
-  pub issued : (l t : ℕ) → l < 4 → Issued h l t → Issued h′ l t
+  pub issued : (l t : ℕ) → Issued h l t → Issued h′ l t
 
 pub record Own (h h′ : House) (me : ℕ) : Type 0 where
   pub cells : (i : ℕ) → i < 64 → CellLaw (itemAt (h .items) i .level) (itemAt (h′ .items) i .version) (levelOf me) (placeAt (h′ .places) me .standing) (cellAt (h′ .cells) me i)
@@ -222,6 +221,6 @@ module _ {h h′ : House} {me : ℕ} (L : Law h) (F : Frame h h′ me) where
         issued = λ p b x.
             elim (same p me) [
               | inl e ↦ rw e (O .issued (rw e at x))
-              | inr n ↦ rw (F .place p b n) (F .issued _ _ (omega arith) (L .issued p b (rw (F .place p b n) at x)))
+              | inr n ↦ rw (F .place p b n) (F .issued _ _ (L .issued p b (rw (F .place p b n) at x)))
             ];
       }

@@ -7,3 +7,4 @@ pub mod Guards
 pub mod Delay
 pub mod Decides
 pub mod Answers
+pub mod Tickets

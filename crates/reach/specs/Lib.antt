@@ -4,3 +4,4 @@ pub mod Guards
 pub mod Delay
 pub mod Decides
 pub mod Answers
+pub mod Tickets

@@ -11,12 +11,12 @@ use Rattle.house.specs.declared.House.{House}
 use Rattle.house.specs.declared.Request.{Request}
 use Rattle.house.specs.Rules.{commit, stepped}
 use Rattle.house.specs.Opening.{opening}
-use Rattle.house.specs.Run.{finally}
+use Rattle.house.specs.Run.{finally, done, Name}
 use Rattle.house.proofs.Tests.{is, clash}
 use Rattle.house.proofs.Lists.{mapFrom-same}
 use Rattle.reach.proofs.Law.{clear-law}
 use Rattle.reach.proofs.Opened.{opening-has, opening-free}
-use Rattle.serial.specs.Demand.{Event, trace, done, wrote, Name, name, doing, work, commits, Row, Table, table, answer, answers, look, run, serially, Demand3, Untouched, OfUntouched, OfOpened}
+use Rattle.serial.specs.Demand.{Event, trace, wrote, name, doing, work, commits, Row, Table, table, answer, answers, look, run, serially, Demand3, Untouched, OfUntouched, OfOpened}
 use Rattle.serial.proofs.Past.{Past, doings, shown, alone, Repeats, serial, Serial}
 use Rattle.serial.proofs.Step.{Closed, Known, step-known}
 

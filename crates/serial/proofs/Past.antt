@@ -10,8 +10,9 @@ use lib.Dec.{eqb}
 use borrow.Author.Tests.{eqb-true}
 use Rattle.house.specs.Search.{mapFrom}
 use Rattle.house.specs.Rules.{read, write, commit}
+use Rattle.house.specs.Run.{done, Name}
 use Rattle.house.proofs.Tests.{is, clash, and-true}
-use Rattle.serial.specs.Demand.{Event, done, wrote, Name, name, doing, Row, Table, answer}
+use Rattle.serial.specs.Demand.{Event, wrote, name, doing, Row, Table, answer}
 
 abbrev pub Past : Type 0
 Past = List Event

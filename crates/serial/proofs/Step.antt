@@ -15,6 +15,7 @@ use Rattle.house.specs.declared.Outcome.{Outcome}
 use Rattle.house.specs.declared.Request.{Request}
 use Rattle.house.specs.House.{levelOf, placeAt, nextAt}
 use Rattle.house.specs.Rules.{read, write, commit, ticketAfter, begun, readBy, readFor, writtenBy, certifiedBy, left, committedBy, abortedBy, askAnswer, replied, stepped}
+use Rattle.house.specs.Run.{done}
 use Rattle.house.proofs.Tests.{same, clash}
 use Rattle.house.proofs.Places.{Seated}
 use Rattle.house.proofs.Effects.{begun-place, begun-next, certified-place, begun-next-other}
@@ -23,7 +24,7 @@ use Rattle.reach.proofs.Law.{Law, Frame, Own, lawful}
 use Rattle.reach.proofs.Turns.{MayBegin, MayRead, MayWrite, MayCertify, MayCommit, Turn, refused, waits, begins, reads, writes, certifies, commits, aborts, asks, turn}
 use Rattle.reach.proofs.Changes.{after-cases, begin-frame, begin-own, read-frame, read-own, write-frame, write-own, certify-frame, certify-own, freed, abort-frame, commit-frame, abort-own, commit-own}
 use Rattle.reach.proofs.Guards.{read-number}
-use Rattle.serial.specs.Demand.{Event, done, name, doing, Table, table}
+use Rattle.serial.specs.Demand.{Event, name, doing, Table, table}
 use Rattle.serial.proofs.Past.{Past, doings, alone, Repeats, serial, Serial, doings-skip, doings-take, serial-skip, serial-take, doing-other, quiet, doing-quiet}
 use Rattle.serial.proofs.Told.{Told, told-kept, begin-told, read-told, write-told, certify-told, begin-table, read-table, write-table, certify-table, abort-table, commit-table, commit-repeats}
 
@@ -68,7 +69,7 @@ module _ {t : Table} {h h′ : House} {past : Past} {me : ℕ} (I : Known t h pa
   gone-kept s l n g =
       record {
         level = g .level;
-        issued = F .issued l n (g .level) (g .issued);
+        issued = F .issued l n (g .issued);
         nobody = λ p b o x y.
             elim (same p me) [
               | inl z ↦ elim (s (rw z at o)) [
@@ -221,7 +222,7 @@ module _ {t : Table} {h : House} {past : Past} (I : Known t h past) (q : Request
           let F = commit-frame (I .law) m in
           record {
             level = omega arith;
-            issued = F .issued _ _ (omega arith) (rw (lv, S .ticket) at (I .law .issued me m (S .taken)));
+            issued = F .issued _ _ (rw (lv, S .ticket) at (I .law .issued me m (S .taken)));
             nobody = λ p b x y z.
                 elim (same p me) [
                   | inl w ↦ clash (freed (I .law) m) (rw w at x)

@@ -9,37 +9,22 @@ use lib.ListN.{getD}
 use lib.Dec.{eqb}
 use Rattle.house.specs.declared.House.{House}
 use Rattle.house.specs.declared.Item.{Item}
-use Rattle.house.specs.declared.Reply.{Reply}
 use Rattle.house.specs.declared.Request.{Request}
 use Rattle.house.specs.Search.{mapFrom}
 use Rattle.house.specs.Cell.{cellAt}
 use Rattle.house.specs.House.{Sizes, placeAt, isFree}
-use Rattle.house.specs.Rules.{read, write, commit, _does_, stepped}
+use Rattle.house.specs.Rules.{read, write, commit, _does_}
 use Rattle.house.specs.Opening.{opening}
-use Rattle.house.specs.Run.{finally}
+use Rattle.house.specs.Run.{finally, done, Name}
+pub use Rattle.house.specs.Run.{Event}
+unfoldable pub use Rattle.house.specs.Run.{trace}
 
 -- WHAT THE DESK DID
-
--- what was asked, and what the desk replied
-abbrev pub Event : Type 0
-Event = Request × Reply
-
--- all of it, in the order of time
-unfoldable pub trace : House → List Request → List Event
-trace h [] = []
-trace h (q ∷ qs) = (q, stepped h q .reply) ∷ trace (stepped h q .house) qs
-
--- the request had this operation, and was done
-abbrev pub done : Event → ℕ → Bool
-done e operation = eqb (e .1 .number) 0 && e .0 does operation
 
 abbrev pub wrote : Event → Bool
 wrote e = e .0 does write
 
--- "A transaction's name is its level and ticket."
-abbrev pub Name : Type 0
-Name = ℕ × ℕ
-
+-- in whose name: "A transaction's name is its level and ticket."
 abbrev pub name : Event → Name
 name e = (e .0 .level, e .0 .ticket)
 
