@@ -8,8 +8,6 @@ use mathlib.Core.Bool.{Bool, true, false, _&&_}
 use mathlib.Core.List.{List, [], _∷_}
 use lib.Dec.{leb}
 use borrow.Author.Tests.{leb-true, ne-eqb, ltb-false}
-use Rattle.house.specs.declared.Answer.{Answer}
-use Rattle.house.specs.declared.Answer.the-variants.{Refused, Done, Ticket, Pair, Signals}
 use Rattle.house.specs.declared.Found.{Found}
 use Rattle.house.specs.declared.Found.the-variants.{At, Nobody}
 use Rattle.house.specs.declared.House.{House}
@@ -18,13 +16,13 @@ use Rattle.house.specs.declared.Request.{Request}
 use Rattle.house.specs.Search.{nobody}
 use Rattle.house.specs.House.{fixed, seek}
 use Rattle.house.specs.Checks.{foremost, someApplies}
-use Rattle.house.specs.Rules.{begin, asker, noOperation, noLevel, unusedSet, unknown, refusals, checks, verdict, readFor, askAnswer, replied, stepped}
+use Rattle.house.specs.Rules.{begin, asker, noOperation, noLevel, unusedSet, unknown, refusals, checks, verdict, stepped}
 use Rattle.house.specs.Opening.{wrongLength, wrongLevel, openVerdict, opening}
 use Rattle.house.proofs.Tests.{is, clash, and-true}
 use Rattle.house.proofs.Places.{zero-nowhere}
 use Rattle.house.proofs.Checks.{none-applies, none-given, first-given, clear, passes, asker-known}
 use Rattle.house.proofs.Effects.{begun-fixed, read-fixed, written-fixed, certified-fixed, committed-fixed, aborted-fixed}
-use Rattle.reach.specs.Answers.{Stranger, TurnedDown, RefusalKeeps, FirstGiven, DoneExactly, NumberStands, OpeningStands, FixedStays, OperationRepeats, StrangerRefused, ZeroRefused, StrangerGetsSix, ZeroGetsSix, ZeroNamesNobody}
+use Rattle.reach.specs.Answers.{Stranger, TurnedDown, RefusalKeeps, FirstGiven, DoneExactly, NumberStands, OpeningStands, FixedStays, StrangerRefused, ZeroRefused, StrangerGetsSix, ZeroGetsSix, ZeroNamesNobody}
 use Rattle.reach.proofs.Turns.{Asker, found, Turn, refused, waits, begins, reads, writes, certifies, commits, aborts, asks, turn, refused-is, done-is}
 use Rattle.reach.proofs.Opened.{reachable-has}
 use Rattle.reach.proofs.Guards.{number}
@@ -69,27 +67,6 @@ opening-stands levels =
       | inl y ↦ inr (inl (rw y))
       | inr y ↦ elim (is (wrongLevel levels)) [ inl z ↦ inr (inr (rw (y, z))) | inr z ↦ inl (rw (y, z)) ]
     ]
-
-repeated : (q : Request) (a : Answer) → replied q a .operation ≡ q .operation
-repeated q (Refused n) = refl
-repeated q Done = refl
-repeated q (Ticket t) = refl
-repeated q (Pair v n) = refl
-repeated q (Signals i n) = refl
-
-turn-repeats : {h : House} {q : Request} {o : Outcome} → Turn h q o → o .reply .operation ≡ q .operation
-turn-repeats (refused n) = refl
-turn-repeats (waits me A z c) = refl
-turn-repeats (begins me o K) = refl
-turn-repeats {h} {q} (reads me o A K) = repeated q (readFor h me (q .item))
-turn-repeats (writes me o A K) = refl
-turn-repeats (certifies me o A K) = refl
-turn-repeats (commits me o A K) = refl
-turn-repeats (aborts me o A) = refl
-turn-repeats {h} {q} (asks me o A) = repeated q (askAnswer (h .cells) me)
-
-pub operation-repeats : OperationRepeats
-operation-repeats h q = turn-repeats (turn h q)
 
 turn-fixed : {h : House} {q : Request} {o : Outcome} → Turn h q o → fixed (o .house) ≡ fixed h
 turn-fixed (refused n) = refl

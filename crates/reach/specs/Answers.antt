@@ -49,10 +49,6 @@ OpeningStands = (levels : List ℕ) → (opening levels .number ≡ 0) ⊎ ((ope
 abbrev pub FixedStays : Type 0
 FixedStays = (h : House) (q : Request) → fixed (stepped h q .house) ≡ fixed h
 
--- "Every reply repeats operation .. as they came"
-abbrev pub OperationRepeats : Type 0
-OperationRepeats = (h : House) (q : Request) → stepped h q .reply .operation ≡ q .operation
-
 -- No caller is trusted to have looked first: a ticket that nobody open at its level has is refused, and changes nothing
 abbrev pub StrangerRefused : Type 0
 StrangerRefused = (h : House) (q : Request) → q .operation ≢ begin → Stranger h q → TurnedDown h q
