@@ -1,20 +1,25 @@
 -- Demand 1, of every house value and every request, reachable or not: each request gets a reply from the table, the first number
 -- that applies; a refusal or a delay leaves the house as it was; and no caller is trusted to have looked first.
 -- Assumes nothing.
-use Prim.Native.Nat.{ℕ, _≤_, _<_}
+use Prim.Native.Nat.{ℕ, _<_}
 use mathlib.Core.Path.{_≡_}
 use mathlib.Core.Logic.{_≢_, _⊎_}
-use mathlib.Core.Bool.{false, _&&_, not}
-use mathlib.Core.List.{List}
+use mathlib.Core.Bool.{true, false, _&&_, not}
+use mathlib.Core.List.{List, [], _∷_, map}
 use lib.Dec.{eqb}
 use Rattle.house.specs.declared.House.{House}
 use Rattle.house.specs.declared.Request.{Request}
+use Rattle.house.specs.Search.{anyOf}
 use Rattle.house.specs.House.{fixed, levelOf, placeAt}
 use Rattle.house.specs.Checks.{someApplies, testOf, before}
 use Rattle.house.specs.Rules.{begin, noOperation, noLevel, unusedSet, checks, performed, stepped}
 use Rattle.house.specs.Opening.{opening}
 use Rattle.reach.specs.Reach.{Reachable}
 use Rattle.reach.specs.Kept.{Open}
+
+-- "Order of checks: 3, 4, 5, 6, 7, 8, 2, 9, 10, 11, 12, 1."
+abbrev pub order : List ℕ
+order = 3 ∷ 4 ∷ 5 ∷ 6 ∷ 7 ∷ 8 ∷ 2 ∷ 9 ∷ 10 ∷ 11 ∷ 12 ∷ 1 ∷ []
 
 -- nobody who is open at the request's level has its ticket
 abbrev pub Stranger : House → Request → Type 0
@@ -38,9 +43,13 @@ FirstGiven = (h : House) (q : Request) (n : ℕ) → n ≢ 0 → eqb (stepped h 
 abbrev pub DoneExactly : Type 0
 DoneExactly = (h : House) (q : Request) → (eqb (stepped h q .reply .number) 0 ≡ not (someApplies (checks h q))) × (stepped h q .reply .number ≡ 0 → stepped h q ≡ performed h q)
 
--- the number of every reply stands in the table: 0 to 12, and of an opening 0, 13 or 14
+-- the checks stand in document 01's order, whatever is asked
+abbrev pub OrderStands : Type 0
+OrderStands = (h : House) (q : Request) → map (λ x. x .0) (checks h q) ≡ order
+
+-- the number of every reply stands in the table: it is 0 or one of these; of an opening 0, 13 or 14
 abbrev pub NumberStands : Type 0
-NumberStands = (h : House) (q : Request) → stepped h q .reply .number ≤ 12
+NumberStands = (h : House) (q : Request) → anyOf (eqb (stepped h q .reply .number)) (0 ∷ order) ≡ true
 
 abbrev pub OpeningStands : Type 0
 OpeningStands = (levels : List ℕ) → (opening levels .number ≡ 0) ⊎ ((opening levels .number ≡ 13) ⊎ (opening levels .number ≡ 14))
