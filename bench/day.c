@@ -126,7 +126,7 @@ static void try_openings(void) {
         uint8_t number;
     } openings[] = {{{0}, 1, 0}, {{0, 3, 1}, 3, 0}, {{0}, 0, 13}, {{4}, 65, 13}, {{0, 4}, 2, 14}};
     for (size_t k = 0; k < sizeof openings / sizeof *openings; k++, calls++) {
-        uint8_t number = desk_open(openings[k].levels, openings[k].count);
+        uint8_t number = desk_fresh_open(openings[k].levels, openings[k].count);
         if (number == openings[k].number) continue;
         printf("opening %zu: %u, not %u\n", k + 1, number, openings[k].number);
         differing++;
@@ -139,7 +139,8 @@ typedef size_t turn(const uint8_t *levels, size_t levels_len, const uint8_t *req
 static const struct {
     const char *name;
     turn *call;
-} turns[] = {{"desk_turn", desk_turn}, {"desk_turn_in_place", desk_turn_in_place}};
+} turns[] = {{"desk_fresh_turn", desk_fresh_turn},
+            {"desk_fresh_turn_in_place", desk_fresh_turn_in_place}};
 
 static void try(const struct example *e) {
     uint8_t requests[(MOST_STEPS + 1) * REQUEST_BYTES], expected[MOST_STEPS * REPLY_BYTES];

@@ -40,12 +40,13 @@ static size_t run_bdb(const uint8_t *levels, size_t n, const uint8_t *requests,
 #ifdef WITH_PROVED
 static size_t run_turn(const uint8_t *levels, size_t n, const uint8_t *requests,
                        size_t requests_len, uint8_t *replies, size_t replies_len) {
-    return desk_turn(levels, n, requests, requests_len, replies, replies_len, SIZE_MAX);
+    return desk_fresh_turn(levels, n, requests, requests_len, replies, replies_len, SIZE_MAX);
 }
 
 static size_t run_in_place(const uint8_t *levels, size_t n, const uint8_t *requests,
                            size_t requests_len, uint8_t *replies, size_t replies_len) {
-    return desk_turn_in_place(levels, n, requests, requests_len, replies, replies_len, SIZE_MAX);
+    return desk_fresh_turn_in_place(levels, n, requests, requests_len, replies, replies_len,
+                                    SIZE_MAX);
 }
 #endif
 

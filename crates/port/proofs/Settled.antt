@@ -8,21 +8,21 @@ use borrow.Fn.World
 use contract.Lifetimes
 use denote.Ref.{now}
 use denote.Triple.Clauses
-use Rattle.port.proofs.desk_open as opens
-use Rattle.port.proofs.desk_open.Kinds as opens-kinds
-use Rattle.port.proofs.desk_open.Reads as opens-reads
-use Rattle.port.proofs.desk_turn_in_place as in-place
-use Rattle.port.proofs.desk_turn_in_place.Kinds as in-place-kinds
-use Rattle.port.proofs.desk_turn_in_place.Reads as in-place-reads
-use Rattle.port.proofs.desk_turn as turns
-use Rattle.port.proofs.desk_turn.Kinds as turns-kinds
-use Rattle.port.proofs.desk_turn.Reads as turns-reads
+use Rattle.port.proofs.desk_fresh_open as opens
+use Rattle.port.proofs.desk_fresh_open.Kinds as opens-kinds
+use Rattle.port.proofs.desk_fresh_open.Reads as opens-reads
+use Rattle.port.proofs.desk_fresh_turn_in_place as in-place
+use Rattle.port.proofs.desk_fresh_turn_in_place.Kinds as in-place-kinds
+use Rattle.port.proofs.desk_fresh_turn_in_place.Reads as in-place-reads
+use Rattle.port.proofs.desk_fresh_turn as turns
+use Rattle.port.proofs.desk_fresh_turn.Kinds as turns-kinds
+use Rattle.port.proofs.desk_fresh_turn.Reads as turns-reads
 
-pub desk-open-settled : (κs : Lifetimes.Lfts 1) (a : World.ArgsD opens.signature κs) (r r′ : World.ResD opens.signature κs) (s s′ : Clauses.AtExit (Kinds'.endedOf 1 opens-kinds.ps opens-kinds.r) κs) → opens-reads.Post κs a r s → opens-reads.Post κs a r′ s′ → r ≡ r′
-desk-open-settled κs a r r′ s s′ p q = p ∙ sym q
+pub desk-fresh-open-settled : (κs : Lifetimes.Lfts 1) (a : World.ArgsD opens.signature κs) (r r′ : World.ResD opens.signature κs) (s s′ : Clauses.AtExit (Kinds'.endedOf 1 opens-kinds.ps opens-kinds.r) κs) → opens-reads.Post κs a r s → opens-reads.Post κs a r′ s′ → r ≡ r′
+desk-fresh-open-settled κs a r r′ s s′ p q = p ∙ sym q
 
-pub desk-turn-in-place-settled : (κs : Lifetimes.Lfts 3) (a : World.ArgsD in-place.signature κs) (r r′ : World.ResD in-place.signature κs) (s s′ : Clauses.AtExit (Kinds'.endedOf 3 in-place-kinds.ps in-place-kinds.r) κs) → in-place-reads.Post κs a r s → in-place-reads.Post κs a r′ s′ → (r ≡ r′) × (now (s .1 .1 .0) ≡ now (s′ .1 .1 .0))
-desk-turn-in-place-settled κs a r r′ s s′ p q = (p .0 ∙ sym (q .0), p .1 ∙ sym (q .1))
+pub desk-fresh-turn-in-place-settled : (κs : Lifetimes.Lfts 3) (a : World.ArgsD in-place.signature κs) (r r′ : World.ResD in-place.signature κs) (s s′ : Clauses.AtExit (Kinds'.endedOf 3 in-place-kinds.ps in-place-kinds.r) κs) → in-place-reads.Post κs a r s → in-place-reads.Post κs a r′ s′ → (r ≡ r′) × (now (s .1 .1 .0) ≡ now (s′ .1 .1 .0))
+desk-fresh-turn-in-place-settled κs a r r′ s s′ p q = (p .0 ∙ sym (q .0), p .1 ∙ sym (q .1))
 
-pub desk-turn-settled : (κs : Lifetimes.Lfts 3) (a : World.ArgsD turns.signature κs) (r r′ : World.ResD turns.signature κs) (s s′ : Clauses.AtExit (Kinds'.endedOf 3 turns-kinds.ps turns-kinds.r) κs) → turns-reads.Post κs a r s → turns-reads.Post κs a r′ s′ → (r ≡ r′) × (now (s .1 .1 .0) ≡ now (s′ .1 .1 .0))
-desk-turn-settled κs a r r′ s s′ p q = (p .0 ∙ sym (q .0), p .1 ∙ sym (q .1))
+pub desk-fresh-turn-settled : (κs : Lifetimes.Lfts 3) (a : World.ArgsD turns.signature κs) (r r′ : World.ResD turns.signature κs) (s s′ : Clauses.AtExit (Kinds'.endedOf 3 turns-kinds.ps turns-kinds.r) κs) → turns-reads.Post κs a r s → turns-reads.Post κs a r′ s′ → (r ≡ r′) × (now (s .1 .1 .0) ≡ now (s′ .1 .1 .0))
+desk-fresh-turn-settled κs a r r′ s s′ p q = (p .0 ∙ sym (q .0), p .1 ∙ sym (q .1))

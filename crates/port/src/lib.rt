@@ -1,4 +1,6 @@
-// The desk for a caller in C: calls on numbers and byte slices. A slice is two arguments there, a pointer and a length.
+// The desk for a caller in C: calls on numbers and byte slices, each with a fresh house that is gone when it returns. A slice is
+// two arguments there, a pointer and a length. What the types say here the caller in C has to keep: a pointer is valid for its
+// whole length, and the reply bytes overlap no other slice of the call.
 
 ghost use mathlib.Core.Path.{_≡_};
 ghost use Rattle.house.specs.Opening.{opening};
@@ -9,16 +11,17 @@ use opening::open;
 
 // The number of an opening: 0, 13 or 14.
 #[no_mangle]
-pub extern "C" fn desk_open(levels: &[u8]) -> u8
+pub extern "C" fn desk_fresh_open(levels: &[u8]) -> u8
     ensures { λ r. ⌜ r ≡ opening (now (levels .entry)) .number ⌝ }
 {
     let opened = open(levels);
     opened.number
 }
 
-// Opens a house and serves one turn in it, step after step; the count of the requests answered.
+// Opens a house and serves one turn in it, the house by value from step to step; the count of the requests answered. A refused
+// opening has no items, and its turn is served too.
 #[no_mangle]
-pub extern "C" fn desk_turn(
+pub extern "C" fn desk_fresh_turn(
     levels: &[u8],
     requests: &[u8],
     replies: &mut [u8],
@@ -35,7 +38,7 @@ pub extern "C" fn desk_turn(
 
 // The same with the house changed where it lies: the call for many requests.
 #[no_mangle]
-pub extern "C" fn desk_turn_in_place(
+pub extern "C" fn desk_fresh_turn_in_place(
     levels: &[u8],
     requests: &[u8],
     replies: &mut [u8],

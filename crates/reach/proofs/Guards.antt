@@ -1,4 +1,4 @@
--- The guards for unreachable houses never decide in a reachable one.
+-- The guards for unreachable houses: two never decide in a reachable one, the third in none.
 -- Assumes nothing.
 use Prim.Native.Nat.{ℕ, _+_, _≤_, _<_}
 use native.Mathlib.Omega.{arith}
@@ -12,11 +12,11 @@ use Rattle.house.specs.declared.Mark.the-variants.{Write}
 use Rattle.house.specs.declared.Outcome.{Outcome}
 use Rattle.house.specs.declared.Request.{Request}
 use Rattle.house.specs.Cell.{holds}
-use Rattle.house.specs.Rules.{usesItem, noItem, delayed, verdict, grown, readAnswer, readFor, askAnswer, replied, stepped}
+use Rattle.house.specs.Rules.{usesItem, noItem, delayed, verdict, grown, readAnswer, readFor, askAnswer, replied}
 use Rattle.house.proofs.Tests.{is, same, clash}
 use Rattle.house.proofs.Checks.{passes}
 use Rattle.reach.specs.Kept.{Kept}
-use Rattle.reach.specs.Guards.{Unguarded, GuardsRest}
+use Rattle.reach.specs.Guards.{Unguarded, GuardsRest, PlaceGuardRests}
 use Rattle.reach.proofs.Turns.{Turn, refused, waits, begins, reads, writes, certifies, commits, aborts, asks, turn, first-refused, refused-is}
 use Rattle.reach.proofs.Opened.{reachable-has}
 
@@ -49,12 +49,11 @@ done-number v (commits me o A K) = refl
 done-number v (aborts me o A) = refl
 done-number v (asks me o A) = refl
 
--- in every house, reachable or not
-pub number : (h : House) (q : Request) → stepped h q .reply .number ≡ verdict h q
+pub number : PlaceGuardRests
 number h q = elim (same (verdict h q) 0) [ inl v ↦ done-number v (turn h q) ∙ sym v | inr n ↦ rw (refused-is h q _ refl n) ]
 
 pub unguarded : {h : House} → Kept h → Unguarded h
-unguarded {h} K = record { grows = λ p i b a w. grown-room _ (K .room p i b a w); counted = item-counted h (K .count); numbered = number h }
+unguarded {h} K = record { grows = λ p i b a w. grown-room _ (K .room p i b a w); counted = item-counted h (K .count) }
 
 pub guards-rest : GuardsRest
 guards-rest h R = unguarded (reachable-has h R)

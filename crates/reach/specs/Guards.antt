@@ -1,6 +1,6 @@
 -- The rules speak of every house value, so they have guards for houses that cannot be reached: a largest version stays, an item
--- number is held to 64 as well as to the count, a done request that finds no place is refused. In a house that can be reached
--- none of them decides.
+-- number is held to 64 as well as to the count. In a house that can be reached neither decides. A third guard, that a done request
+-- which finds no place is refused, decides in no house at all.
 -- Assumes nothing.
 use Prim.Native.Nat.{ℕ, _+_, _<_}
 use mathlib.Core.Path.{_≡_}
@@ -18,9 +18,12 @@ pub record Unguarded (h : House) : Type 0 where
   pub grows : (p i : ℕ) → p < 32 → i < 64 → wrote (h .cells) p i ≡ true → grown (itemAt (h .items) i .version) ≡ itemAt (h .items) i .version + 1
   -- the count alone says which items there are
   pub counted : (q : Request) → noItem h q ≡ (usesItem q && leb (h .count) (q .item))
-  -- a request that passes the checks is done: the number replied is the first check's that applies, and 0 where none does
-  pub numbered : (q : Request) → stepped h q .reply .number ≡ verdict h q
 
--- THE STATEMENT, proved in proofs/Guards.antt
+-- THE STATEMENTS, proved in proofs/Guards.antt
+
 abbrev pub GuardsRest : Type 0
 GuardsRest = (h : House) → Reachable h → Unguarded h
+
+-- of every house: the number replied is the first check's that applies, and 0 where none does
+abbrev pub PlaceGuardRests : Type 0
+PlaceGuardRests = (h : House) (q : Request) → stepped h q .reply .number ≡ verdict h q
