@@ -2,14 +2,13 @@
 -- Assumes nothing.
 use Prim.Native.Nat.{ℕ}
 use mathlib.Core.List.{List, [], _∷_, _++_, map}
-use Rattle.house.specs.declared.House.{House}
 use Rattle.house.specs.declared.Place.{Place}
 use Rattle.house.specs.declared.Reply.{Reply}
 use Rattle.house.specs.declared.Request.{Request}
 use Rattle.house.specs.House.{placeAt}
-use Rattle.house.specs.Rules.{begin, read, write, certify, commit, abort, ask, stepped}
+use Rattle.house.specs.Rules.{begin, read, write, certify, commit, abort, ask}
 use Rattle.house.specs.Opening.{opening}
-use Rattle.house.specs.Run.{Event}
+use Rattle.house.specs.Run.{Event, finally, replies}
 
 -- Requests, with the fields that each uses
 
@@ -60,22 +59,15 @@ talk x = x .before ++ (x .request, x .reply) ∷ []
 
 -- What the desk gives where the example speaks: the number of the opening, every reply, and the places named
 
-abbrev pub replies : House → List Event → List Reply
-replies h [] = []
-replies h (e ∷ es) = let o = stepped h (e .0) in o .reply ∷ replies (o .house) es
-
-abbrev pub after : House → List Event → House
-after h [] = h
-after h (e ∷ es) = after (stepped h (e .0) .house) es
-
 abbrev pub Report : Type 0
 Report = ℕ × List Reply × List Place
 
 unfoldable pub given : Example → Report
 given x =
     let o = opening (x .levels) in
-    let places = after (o .house) (talk x) .places in
-    (o .number, replies (o .house) (talk x), map (λ s. placeAt places (s .0)) (x .places))
+    let asked = map (λ e. e .0) (talk x) in
+    let places = finally (o .house) asked .places in
+    (o .number, replies (o .house) asked, map (λ s. placeAt places (s .0)) (x .places))
 
 unfoldable pub expected : Example → Report
 expected x = (0, map (λ e. e .1) (talk x), map (λ s. s .1) (x .places))
