@@ -3,6 +3,7 @@
 use Prim.Native.Nat.{ℕ, _+_, _≤_, _<_}
 use native.Mathlib.Omega.{arith}
 use mathlib.Core.Path.{_≡_, refl, sym, ap, subst, _∙_}
+use mathlib.Core.Logic.{inl, inr}
 use mathlib.Core.List.{List, [], _∷_, _++_, append-assoc, append-nil}
 use lib.ListN.{length, take, drop, length-append, length-take, length-drop}
 use lib.Seq.{take-at, take-append-add, length-take-le}
@@ -13,7 +14,7 @@ use Rattle.dialogue.specs.declared.Stage.{Stage}
 use Rattle.dialogue.specs.declared.Stage.the-variants.{Waiting, Open, Refused}
 use Rattle.dialogue.specs.Dialogue.{atStage, started, fed, kept, heard}
 use Rattle.dialogue.specs.Pieces.{Enough}
-use Rattle.dialogue.specs.Rounds.{Read, brought, filled, round, ending, told, Reads, Room, AsProgrammed, NeverFull}
+use Rattle.dialogue.specs.Rounds.{Read, brought, filled, round, Exchanged, ending, told, Reads, Room, AsProgrammed, NeverFull}
 use Rattle.dialogue.proofs.Laws.{fed-within}
 use Rattle.dialogue.proofs.Pieces.{before, expected, Unfinished, Fresh, expected-last, after, leaves-little, fresh-start, nothing-yet, all-expected}
 
@@ -65,6 +66,17 @@ hearing s buffer have got room r x left out e =
     let w = fed-within (s .stage) (s .house) (take (have + got) buffer) room .1 in
     subst (λ y. (y .0 .have < length (y .1)) × Room (y .1) (y .2) × (y .0 .written ≤ length (y .2))) (sym e) (f .0, f .1, w)
 
+-- a read that brought nothing changed nothing that was kept, and what another brought was heard
+module _ (s : Dialogue) (buffer : List ℕ) (have : ℕ) (room : List ℕ) where
+  pub nothing-brought : (part : List ℕ) → have ≤ length buffer → Exchanged s buffer have room s have (take have buffer ++ part) room
+  nothing-brought part b = inr (refl, refl, take-at (take have buffer) part have (length-take-le have buffer b), refl)
+
+  pub bytes-heard : (r : Read) (x : Heard) (left out : List ℕ) → (x, left, out) ≡ heard s (filled buffer have r) have (r .got) room → have ≤ length buffer → length (filled buffer have r) ≡ length buffer → have + r .got ≤ length buffer → Exchanged s buffer have room (x .dialogue) (x .have) left out
+  unfolding round
+  bytes-heard r x left out e b l g =
+      let long : have + length (r .part) ≡ length buffer = ap (λ n. n + length (r .part)) (sym (length-take-le have buffer b)) ∙ sym (length-append (take have buffer) (r .part)) ∙ l in
+      inl (r, (long, omega arith), (ap (λ y. y .0 .dialogue) e, ap (λ y. y .0 .have) e, ap (λ y. y .1) e, ap (λ y. y .2) e))
+
 -- ROUND AFTER ROUND
 
 -- whether the program goes on or not, what it expects is the same
@@ -91,15 +103,15 @@ unfolding told brought Reads round heard
 told-expected s buffer have room [] enough e u rd = rw (append-nil (take have buffer)) (expected-last (s .stage) (s .house) (take have buffer) e u)
 told-expected s buffer have room (r ∷ rs) enough e u rd =
     let fill = filled buffer have r in
-    let wide : Enough fill room = rw (filled-long buffer have r (rd .0)) enough in
+    let wide : Enough fill room = rw (filled-long buffer have r (rd .0 .0)) enough in
     let bytes = take (have + r .got) fill in
     let f = fed s bytes room in
     let a = after (s .stage) (s .house) bytes room (given-enough s fill have (r .got) room wide) in
     let front = next-front (f .0 .used) (have + r .got) fill in
-    let next = told-expected (f .0 .dialogue) (next (f .0 .used) (have + r .got) fill) (length (drop (f .0 .used) bytes)) (f .1) rs (stays s fill have (r .got) room wide) (a .fresh e) (rw front (a .unfinished)) (rd .2) in
+    let next = told-expected (f .0 .dialogue) (next (f .0 .used) (have + r .got) fill) (length (drop (f .0 .used) bytes)) (f .1) rs (stays s fill have (r .got) room wide) (a .fresh e) (rw front (a .unfinished)) (rd .1) in
     ap (before (take (f .0 .written) (f .1))) (goes-on (f .0 .dialogue .stage) (f .0 .dialogue .house) _ _ (rw front at next))
     ∙ a .same (brought rs)
-    ∙ ap (λ l. expected s (l ++ brought rs)) (filled-given buffer have r (rd .0))
+    ∙ ap (λ l. expected s (l ++ brought rs)) (filled-given buffer have r (rd .0 .0))
     ∙ ap (expected s) (append-assoc (take have buffer) (take (r .got) (r .part)) (brought rs))
 
 pub as-programmed : AsProgrammed

@@ -3,6 +3,7 @@
 -- Assumes nothing. Proved in proofs/Rounds.antt.
 use Prim.Native.Nat.{ℕ, _+_, _≤_, _<_}
 use mathlib.Core.Path.{_≡_}
+use mathlib.Core.Logic.{_⊎_}
 use mathlib.Core.List.{List, [], _∷_, _++_}
 use lib.ListN.{length, take}
 use Rattle.house.specs.declared.House.{House}
@@ -24,8 +25,22 @@ brought (r ∷ rs) = take (r .got) (r .part) ++ brought rs
 abbrev pub filled : List ℕ → ℕ → Read → List ℕ
 filled buffer have r = take have buffer ++ r .part
 
+-- what C's `read` promises of it: the part is as long as it was, and it brought no more than that
+abbrev pub Reading : List ℕ → ℕ → Read → Type 0
+Reading buffer have r = (have + length (r .part) ≡ length buffer) × (r .got ≤ length (r .part))
+
+-- A ROUND: what it brought is heard
 unfoldable pub round : Dialogue → List ℕ → ℕ → List ℕ → Read → Heard × List ℕ × List ℕ
 round s buffer have room r = heard s (filled buffer have r) have (r .got) room
+
+-- such a round leads to the dialogue t, `keeps` bytes that are kept, the buffer `left` and the reply bytes `out`; or a read brought
+-- nothing, and the dialogue, the bytes that are kept and the reply bytes are as they were
+abbrev pub Exchanged : Dialogue → List ℕ → ℕ → List ℕ → Dialogue → ℕ → List ℕ → List ℕ → Type 0
+Exchanged s buffer have room t keeps left out =
+    ((r : Read) × Reading buffer have r × (let x = round s buffer have room r in (t ≡ x .0 .dialogue) × (keeps ≡ x .0 .have) × (left ≡ x .1) × (out ≡ x .2)))
+    ⊎ ((t ≡ s) × (keeps ≡ have) × (take have left ≡ take have buffer) × (out ≡ room))
+
+-- ROUND AFTER ROUND
 
 -- what is written last, and the house at the end
 abbrev pub ending : Dialogue → List ℕ × House
@@ -40,12 +55,11 @@ told s buffer have room (r ∷ rs) =
     let rest = atStage (x .0 .dialogue .stage) next next (ending (x .0 .dialogue)) in
     (take (x .0 .written) (x .2) ++ rest .0, rest .1)
 
--- what C's `read` promises of each: the part that it was lent is as long as it was, and it brought no more than that
 unfoldable pub Reads : Dialogue → List ℕ → ℕ → List ℕ → List Read → Type 0
 Reads s buffer have room [] = Unit {0}
 Reads s buffer have room (r ∷ rs) =
     let x = round s buffer have room r in
-    (have + length (r .part) ≡ length buffer) × (r .got ≤ length (r .part)) × Reads (x .0 .dialogue) (x .1) (x .0 .have) (x .2) rs
+    Reading buffer have r × Reads (x .0 .dialogue) (x .1) (x .0 .have) (x .2) rs
 
 -- a buffer that holds an unfinished opening and more, and room for a reply to each request that it holds
 abbrev pub Room : List ℕ → List ℕ → Type 0

@@ -4,7 +4,7 @@
 
 ghost use Prim.Native.Nat.{_<_};
 ghost use lib.ListN.{length};
-ghost use Rattle.dialogue.specs.Rounds.{Room};
+ghost use Rattle.dialogue.specs.Rounds.{Room, Exchanged};
 use dialogue::Dialogue;
 use dialogue::Stage;
 use libc::EINTR;
@@ -68,10 +68,12 @@ fn write_out(bytes: &[u8]) -> bool {
     false
 }
 
-// One read, and the replies to what it brought. There is room for them, and the buffer is never full.
+// One read, and the replies to what it brought, which is heard behind the bytes that were kept. There is room for the replies, and
+// the buffer is never full.
 fn exchange(s: Dialogue, buffer: &mut [u8], have: usize, replies: &mut [u8]) -> Round
     requires { ⌜ (have < length (now buffer)) × Room (now buffer) (now replies) ⌝ }
-    ensures { λ r. ⌜ (r .have < length (now (buffer .exit))) × Room (now (buffer .exit)) (now (replies .exit)) ⌝ }
+    ensures { λ r. ⌜ (r .have < length (now (buffer .exit))) × Room (now (buffer .exit)) (now (replies .exit))
+        × Exchanged s (now (buffer .entry)) have (now (replies .entry)) (r .dialogue) (r .have) (now (buffer .exit)) (now (replies .exit)) ⌝ }
 {
     let got = libc::read(STDIN_FILENO, &mut buffer[have..]);
     if got <= 0 {

@@ -4,14 +4,21 @@ use mathlib.Core.Path.{sym}
 use lib.ListN.{length}
 use lib.Seq.{length-take-le}
 use borrow.Author.Needs.{needs}
-use Rattle.dialogue.specs.Rounds.{Room}
-use Rattle.dialogue.proofs.Rounds.{hearing}
+use Rattle.dialogue.specs.Rounds.{Room, Exchanged}
+use Rattle.dialogue.proofs.Rounds.{hearing, nothing-brought, bytes-heard}
 use Rattle.program.proofs.exchange.Statement.{statement}
 use Rattle.program.proofs.exchange.Tie as tie
 
 -- the buffer is not full, and the room is there still
 heard : (c : tie.After-hear) → (c .hear .result .have < length (c .hear .last .1 .0)) × Room (c .hear .last .1 .0) (c .hear .last .1 .1 .1 .1 .0) × (c .hear .result .written ≤ length (c .hear .last .1 .1 .1 .1 .0))
 heard c = hearing _ _ _ _ _ (omega arith, omega arith) _ _ _ (c .hear .ensures)
+
+-- what was handed to `hear` is what the read left behind the bytes that were kept
+abbrev start : tie.After-hear → tie.Start
+start c = c .before .before .before .before .before .before .before .before .before .before .before .before .before
+
+exchanged : (c : tie.After-hear) → Exchanged (start c .args .s) (start c .args .buffer .now) (start c .args .have) (start c .args .replies .now) (c .hear .result .dialogue) (c .hear .result .have) (c .hear .last .1 .0) (c .hear .last .1 .1 .1 .1 .0)
+exchanged c = bytes-heard _ _ _ _ (record { part = _; got = _ }) _ _ _ (c .hear .ensures) (omega arith) (search needs) (omega arith)
 
 -- where the call was made, seen from the first place that looks back at it
 abbrev hearing-at : tie.After-dialogue → tie.After-hear
@@ -36,7 +43,7 @@ same-length : tie.Need-same-length
 same-length c = search needs
 
 returns : tie.Need-returns
-returns c = search needs
+returns c = (search needs, (search needs, search needs), nothing-brought _ _ _ _ _ (search needs))
 
 sub-count : tie.Need-sub-count
 sub-count c = search needs
@@ -72,7 +79,7 @@ same-length-3 : tie.Need-same-length-3
 same-length-3 c = search needs
 
 returns-2 : tie.Need-returns-2
-returns-2 c = let h = heard (hearing-at (c .before .before .before)) in (h .0, h .1)
+returns-2 c = let at = hearing-at (c .before .before .before) in (heard at .0, heard at .1, exchanged at)
 
 pub exchange-spec : {M : Type 1} → statement M
 exchange-spec =
