@@ -12,8 +12,10 @@ use std::time::{Duration, Instant};
 /// How long a reply may take before the program counts as silent.
 pub const PATIENCE: Duration = Duration::from_secs(if cfg!(test) { 1 } else { 10 });
 
-/// How long a program that has closed a pipe, or was only just started, may take to end.
-const MOMENT: Duration = Duration::from_millis(200);
+/// How long a program that takes no house may take to end, and how long one that has closed a
+/// pipe. The first is waited for whenever a desk is started.
+const START: Duration = Duration::from_millis(500);
+const MOMENT: Duration = Duration::from_secs(2);
 
 pub struct Program {
     child: Child,
@@ -45,7 +47,7 @@ impl Program {
 
     /// A desk waits for its input. A program that ends before any has come takes no house.
     pub fn check_waits(&mut self) -> Result<(), String> {
-        match self.end_within(MOMENT)? {
+        match self.end_within(START)? {
             Some(status) => Err(words_for_end(status)),
             None => Ok(()),
         }
