@@ -14,7 +14,7 @@ use Rattle.house.specs.declared.Found.the-variants.{At, Nobody}
 use Rattle.house.specs.declared.House.{House}
 use Rattle.house.specs.declared.Mark.the-variants.{Write}
 use Rattle.house.specs.declared.Request.{Request}
-use Rattle.house.specs.Search.{any, nobody}
+use Rattle.house.specs.Search.{any, nobody, anyOf, distinct}
 use Rattle.house.specs.Cell.{holds}
 use Rattle.house.specs.Checks.{foremost, someApplies, testOf, before}
 use Rattle.house.specs.Rules.{asker, noOperation, noLevel, usesItem, unusedSet, unknown, noItem, forbidden, stopped, untimely, wornOut, crowded, ticketless, delayed, refusals, checks, verdict, waitsAt}
@@ -49,14 +49,12 @@ test-fails (x ∷ xs) e n =
     let k = or-false (x .1) (someApplies xs) e in
     elim (is (eqb (x .0) n)) [ inl y ↦ rw y (k .0) | inr y ↦ rw y (test-fails xs (k .1) n) ]
 
--- the number n is there; no number is there twice
+-- the number n is there; two checks have one number
 abbrev has : ℕ → List (ℕ × Bool) → Bool
-has n [] = false
-has n (x ∷ xs) = eqb (x .0) n || has n xs
+has n = anyOf (λ x. eqb (x .0) n)
 
-abbrev pub distinct : List (ℕ × Bool) → Bool
-distinct [] = true
-distinct (x ∷ xs) = not (has (x .0) xs) && distinct xs
+abbrev pub sameNumber : ℕ × Bool → ℕ × Bool → Bool
+sameNumber x y = eqb (y .0) (x .0)
 
 not-given : (l : List (ℕ × Bool)) (n : ℕ) → n ≢ 0 → has n l ≡ false → eqb (foremost l) n ≡ false
 not-given [] n z e = ne-eqb 0 n (λ q. z (sym q))
@@ -65,10 +63,10 @@ not-given (x ∷ xs) n z e =
     elim (is (x .1)) [ inl y ↦ rw y (k .0) | inr y ↦ rw y (not-given xs n z (k .1)) ]
 
 -- n is given exactly when its test holds and none before it does
-pub first-given : (l : List (ℕ × Bool)) → distinct l ≡ true → (n : ℕ) → n ≢ 0 → eqb (foremost l) n ≡ (testOf n l && not (someApplies (before n l)))
+pub first-given : (l : List (ℕ × Bool)) → distinct sameNumber l ≡ true → (n : ℕ) → n ≢ 0 → eqb (foremost l) n ≡ (testOf n l && not (someApplies (before n l)))
 first-given [] d n z = ne-eqb 0 n (λ q. z (sym q))
 first-given (x ∷ xs) d n z =
-    let k = and-true (not (has (x .0) xs)) (distinct xs) d in
+    let k = and-true (not (has (x .0) xs)) (distinct sameNumber xs) d in
     elim (is (eqb (x .0) n)) [
       | inl e ↦ elim (is (x .1)) [
         | inl y ↦ rw (e, y) e

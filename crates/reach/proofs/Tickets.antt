@@ -11,11 +11,12 @@ use borrow.Author.Tests.{eqb-true, ne-eqb}
 use Rattle.house.specs.declared.House.{House}
 use Rattle.house.specs.declared.Outcome.{Outcome}
 use Rattle.house.specs.declared.Request.{Request}
+use Rattle.house.specs.Search.{distinct}
 use Rattle.house.specs.Rules.{begin, stepped}
-use Rattle.house.specs.Run.{trace, done}
+use Rattle.house.specs.Run.{sameName, trace, done}
 use Rattle.house.proofs.Tests.{is, clash, and-true, and-no}
 use Rattle.reach.specs.Kept.{Issued, Kept}
-use Rattle.reach.specs.Tickets.{given, among, distinct, TicketsOnce}
+use Rattle.reach.specs.Tickets.{given, among, TicketsOnce}
 use Rattle.reach.proofs.Law.{Law}
 use Rattle.reach.proofs.Turns.{Turn, refused, waits, begins, reads, writes, certifies, commits, aborts, asks, turn}
 use Rattle.reach.proofs.Changes.{now-issued, begin-frame, read-frame, write-frame, certify-frame, commit-frame, abort-frame}
@@ -70,7 +71,7 @@ not-again {h} K l t i (q ∷ qs) =
           | inr y ↦ y
         ]
 
-once : {h : House} → Kept h → (qs : List Request) → distinct (given (trace h qs)) ≡ true
+once : {h : House} → Kept h → (qs : List Request) → distinct sameName (given (trace h qs)) ≡ true
 unfolding trace given
 once K [] = refl
 once {h} K (q ∷ qs) =

@@ -2,14 +2,13 @@
 -- Assumes nothing.
 use Prim.Native.Nat.{ℕ}
 use mathlib.Core.Path.{_≡_}
-use mathlib.Core.Bool.{Bool, true, false, _&&_, not, cond}
+use mathlib.Core.Bool.{Bool, true, false, cond}
 use mathlib.Core.List.{List, [], _∷_}
-use lib.Dec.{eqb}
 use Rattle.house.specs.declared.Request.{Request}
-use Rattle.house.specs.Search.{anyOf}
+use Rattle.house.specs.Search.{anyOf, distinct}
 use Rattle.house.specs.Rules.{begin}
 use Rattle.house.specs.Opening.{opening}
-use Rattle.house.specs.Run.{Event, Name, trace, done}
+use Rattle.house.specs.Run.{Event, Name, sameName, trace, done}
 
 -- the names that were given: of each done begin, its level and the ticket of its reply
 unfoldable pub given : List Event → List Name
@@ -18,14 +17,9 @@ given (e ∷ es) = cond (done e begin) ((e .0 .level, e .1 .ticket) ∷ given es
 
 -- the name n is one of them
 abbrev pub among : Name → List Name → Bool
-among n = anyOf (λ m. eqb (m .0) (n .0) && eqb (m .1) (n .1))
-
--- none stands there twice
-abbrev pub distinct : List Name → Bool
-distinct [] = true
-distinct (n ∷ ns) = not (among n ns) && distinct ns
+among n = anyOf (sameName n)
 
 -- THE STATEMENT, proved in proofs/Tickets.antt: from any opening, refused ones too, whatever is asked, no name is given twice, and
 -- ticket 0 is given at no level
 abbrev pub TicketsOnce : Type 0
-TicketsOnce = (levels : List ℕ) (qs : List Request) → let names = given (trace (opening levels .house) qs) in (distinct names ≡ true) × ((l : ℕ) → among (l, 0) names ≡ false)
+TicketsOnce = (levels : List ℕ) (qs : List Request) → let names = given (trace (opening levels .house) qs) in (distinct sameName names ≡ true) × ((l : ℕ) → among (l, 0) names ≡ false)

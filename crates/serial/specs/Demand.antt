@@ -15,7 +15,7 @@ use Rattle.house.specs.Cell.{cellAt}
 use Rattle.house.specs.House.{Sizes, placeAt, isFree}
 use Rattle.house.specs.Rules.{read, write, commit, _does_}
 use Rattle.house.specs.Opening.{opening}
-use Rattle.house.specs.Run.{finally, done, Name}
+use Rattle.house.specs.Run.{finally, done, Name, sameName}
 pub use Rattle.house.specs.Run.{Event}
 unfoldable pub use Rattle.house.specs.Run.{trace}
 
@@ -30,7 +30,7 @@ name e = (e .0 .level, e .0 .ticket)
 
 -- a done read or write in that name
 unfoldable pub doing : Name → Event → Bool
-doing n e = (eqb (e .0 .level) (n .0) && eqb (e .0 .ticket) (n .1)) && (done e read || done e write)
+doing n e = sameName n (name e) && (done e read || done e write)
 
 -- "its done reads and writes in their order"
 unfoldable pub work : Name → List Event → List Event
