@@ -1,3 +1,4 @@
+pub mod Unfolding
 pub mod Tests
 pub mod Levels
 pub mod Searches
