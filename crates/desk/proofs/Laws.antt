@@ -1,10 +1,10 @@
--- Laws of a turn: the bytes of a request, and one request more.
+-- Laws of a turn: the bytes of a request and of a reply, one request more, and the end.
 -- Assumes nothing.
-use Prim.Native.Nat.{ℕ, zero, suc, _+_, _*_, _<_, _≤_}
+use Prim.Native.Nat.{ℕ, zero, suc, _+_, _*_, _/_, _<_, _≤_, min}
 use native.Mathlib.Nat.{add-zero, zero-add, add-assoc}
 use native.Mathlib.Numerals.{add-one}
 use native.Mathlib.Omega.{arith}
-use mathlib.Core.Path.{_≡_, refl, sym, ap, _∙_}
+use mathlib.Core.Path.{_≡_, refl, sym, ap, ap₂, _∙_}
 use mathlib.Core.List.{List, [], _∷_, _++_, append-assoc, append-nil}
 use lib.ListN.{length, getD, set, take, drop, replicate, length-append, length-drop}
 use lib.Seq.{getD-take, getD-drop, drop-drop, take-at, paste, drop-append-add, paste-suc}
@@ -16,7 +16,7 @@ use Rattle.house.specs.Rules.{stepped}
 use Rattle.house.specs.Run.{finally, replies}
 use Rattle.house.proofs.Runs.{finally-append, replies-append}
 use Rattle.wire.specs.Wire.{requestAt, replyBytes}
-use Rattle.desk.specs.Turn.{requests, wired, share, written, housed, answered}
+use Rattle.desk.specs.Turn.{requests, wired, share, written, housed, turned, answered}
 
 -- one byte more of a copy
 pub copied : (d : List ℕ) (at : ℕ) (s : List ℕ) (j : ℕ) {out : List ℕ} {v : ℕ} → out ≡ paste d at s j → v ≡ getD s j 0 → at + j < length d → j < length s → set out (at + j) v ≡ paste d at s (j + 1)
@@ -33,8 +33,15 @@ requestAt-take b =
     let at : (k : ℕ) → k < 12 → getD (take 12 b) k 0 ≡ getD b k 0 = λ k l. getD-take 12 b k 0 l in
     rw (at 0 (omega arith), at 1 (omega arith), at 2 (omega arith), at 3 (omega arith), at 4 (omega arith), at 5 (omega arith), at 6 (omega arith), at 7 (omega arith), at 8 (omega arith), at 9 (omega arith), at 10 (omega arith), at 11 (omega arith))
 
-pub requestAt-copied : (b : List ℕ) (at : ℕ) → requestAt (paste (replicate 12 0) 0 (drop at b) 12) 0 ≡ requestAt b at
-requestAt-copied b at = rw (append-nil (take 12 (drop at b))) (requestAt-take (drop at b) ∙ requestAt-drop b at 0 ∙ rw (add-zero at))
+-- and copied out byte by byte
+module _ (b : List ℕ) (at k : ℕ) (x : List ℕ) (so : x ≡ paste (replicate 12 0) 0 (drop at b) k) where
+  pub copied-out : at + 12 ≤ length b → k < 12 → set x k (getD b (at + k) 0) ≡ paste (replicate 12 0) 0 (drop at b) (k + 1)
+  copied-out i l = rw (zero-add k) at (copied (replicate 12 0) 0 (drop at b) k so (sym (getD-drop at b k 0)) (omega arith) (rw (length-drop at b) (omega arith)))
+
+  pub request-copied : (q : Request) → q ≡ requestAt x 0 → k ≤ 12 → 12 ≤ k → q ≡ requestAt b at
+  request-copied q e l m =
+      let whole : k ≡ 12 = omega arith in
+      e ∙ rw (so, whole, append-nil (take 12 (drop at b))) (requestAt-take (drop at b) ∙ requestAt-drop b at 0 ∙ rw (add-zero at))
 
 -- requests in two parts
 pub requests-add : (n m : ℕ) (b : List ℕ) → requests (n + m) b ≡ requests n b ++ requests m (drop (n * 12) b)
@@ -55,6 +62,14 @@ length-replyBytes : (r : Reply) → length (replyBytes r) ≡ 16
 unfolding replyBytes
 length-replyBytes r = refl
 
+-- a reply is put byte by byte
+module _ (b : List ℕ) (at k : ℕ) (r : Reply) (x out : List ℕ) (is : x ≡ replyBytes r) (so : out ≡ paste b at x k) where
+  pub copied-in : at + 16 ≤ length b → k < 16 → set out (at + k) (getD x k 0) ≡ paste b at x (k + 1)
+  copied-in i l = let long : length x ≡ 16 = ap length is ∙ length-replyBytes r in copied b at x k so refl (omega arith) (omega arith)
+
+  pub reply-copied : k ≤ 16 → 16 ≤ k → out ≡ paste b at (replyBytes r) 16
+  reply-copied l m = let whole : k ≡ 16 = omega arith in so ∙ rw (is, whole)
+
 pub length-wired : (h : House) (n : ℕ) (b : List ℕ) → length (wired (replies h (requests n b))) ≡ n * 16
 unfolding wired replies requests
 length-wired h zero b = refl
@@ -68,26 +83,43 @@ unfolding wired
 wired-append [] ss = refl
 wired-append (r ∷ rs) ss = ap (λ l. replyBytes r ++ l) (wired-append rs ss) ∙ sym (append-assoc (replyBytes r) (wired rs) (wired ss))
 
--- One request more: the house, and the reply bytes
+-- One request more: the n-th is read, and its step is taken
+module _ (h₀ : House) (input : List ℕ) (n : ℕ) (h : House) (q : Request) (o : Outcome) (is : o ≡ stepped h q) (so : h ≡ housed n h₀ input) (read : q ≡ requestAt input (n * 12)) where
+  abbrev nth : Request
+  nth = requestAt input (n * 12)
 
-module _ (h : House) (input room : List ℕ) (n : ℕ) where
-  abbrev pub next : Outcome
-  next = stepped (housed n h input) (requestAt input (n * 12))
+  stepping : o ≡ stepped (housed n h₀ input) nth
+  stepping = is ∙ ap₂ stepped so read
 
-  pub housed-next : housed (n + 1) h input ≡ next .house
+  pub housed-more : (g : House) → g ≡ o .house → g ≡ housed (n + 1) h₀ input
   unfolding finally
-  housed-next = rw (requests-last n input) (finally-append h (requests n input) (requestAt input (n * 12) ∷ []))
+  housed-more g e = e ∙ ap (λ x. x .house) stepping ∙ sym (rw (requests-last n input) (finally-append h₀ (requests n input) (nth ∷ [])))
 
-  pub written-next : {out : List ℕ} {r : Reply} → out ≡ written n h input room → r ≡ next .reply → paste out (n * 16) (replyBytes r) 16 ≡ written (n + 1) h input room
+  pub written-more : (room out now : List ℕ) → out ≡ written n h₀ input room → now ≡ paste out (n * 16) (replyBytes (o .reply)) 16 → now ≡ written (n + 1) h₀ input room
   unfolding replies wired replyBytes
-  written-next so is =
-      let W = wired (replies h (requests n input)) in
+  written-more room out now w p =
+      let W = wired (replies h₀ (requests n input)) in
       let D = drop (n * 16) room in
-      let long : length W ≡ n * 16 = length-wired h n input in
+      let long : length W ≡ n * 16 = length-wired h₀ n input in
       let past : drop (n * 16 + 16) (W ++ D) ≡ drop (n * 16 + 16) room = (rw long at (drop-append-add W D 16)) ∙ drop-drop 16 (n * 16) room in
       let e : (n + 1) * 16 ≡ n * 16 + 16 = omega arith in
-      rw (so, is)
-      (rw (take-at W D (n * 16) long, past, requests-last n input, replies-append h (requests n input) (requestAt input (n * 12) ∷ []), wired-append (replies h (requests n input)) (replies (housed n h input) (requestAt input (n * 12) ∷ [])), e))
+      p
+      ∙ rw (w, stepping)
+      (rw (take-at W D (n * 16) long, past, requests-last n input, replies-append h₀ (requests n input) (nth ∷ []), wired-append (replies h₀ (requests n input)) (replies (housed n h₀ input) (nth ∷ [])), e))
+
+-- a turn has ended where as many are served as the count says
+module _ (h₀ : House) (input room : List ℕ) (most few count n : ℕ) (f : few ≡ min (length input / 12) (length room / 16)) (c : count ≡ min most few) (within : n ≤ count) (past : count ≤ n) where
+  served : n ≡ share most input room
+  unfolding share
+  served = let e : n ≡ count = omega arith in e ∙ c ∙ ap (min most) f
+
+  pub turned-at : (h : House) → h ≡ housed n h₀ input → record { house = h; count = count } ≡ turned h₀ input room most
+  unfolding turned
+  turned-at h s = let e : count ≡ n = omega arith in rw (s, e, served)
+
+  pub answered-at : (out : List ℕ) → out ≡ written n h₀ input room → out ≡ answered h₀ input room most
+  unfolding answered
+  answered-at out w = w ∙ rw served
 
 -- a turn has the bytes of its requests, and room for its replies
 pub share-fits : (most : ℕ) (input room : List ℕ) → (share most input room * 12 ≤ length input) × (share most input room * 16 ≤ length room)

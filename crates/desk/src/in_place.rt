@@ -62,7 +62,8 @@ pub fn turn_in_place(h: House, requests: &[u8], replies: &mut [u8], most: usize)
             Change::Nothing => {}
             Change::Begin(l, me) => {
                 let t = h.next[l];
-                h.places[me] = active(t);
+                let taken = active(t);
+                h.places[me] = taken;
                 h.next[l] = next_ticket(t);
             }
             Change::Read(me, i) => mark_cell(&mut h.cells, Mark::Read, me, i),
@@ -73,7 +74,8 @@ pub fn turn_in_place(h: House, requests: &[u8], replies: &mut [u8], most: usize)
             Change::Certify(me) => {
                 certify_cells(&mut h.cells, me);
                 let place = h.places[me];
-                h.places[me] = certified(place);
+                let seat = certified(place);
+                h.places[me] = seat;
             }
             Change::End(me, commits) => {
                 let claimed = has_claimed(&h.cells, me);
@@ -88,7 +90,8 @@ pub fn turn_in_place(h: House, requests: &[u8], replies: &mut [u8], most: usize)
                     h.pending = dropped;
                 }
                 clear_cells(&mut h.cells, me);
-                h.places[me] = left_free();
+                let left = left_free();
+                h.places[me] = left;
             }
         }
     }

@@ -1,25 +1,22 @@
 -- Laws of an opening's bytes.
 -- Assumes nothing.
-use Prim.Native.Nat.{ℕ, _+_, _≤_}
+use Prim.Native.Nat.{ℕ, _+_, _-_, _^_, _≤_, _<_}
 use native.Mathlib.Omega.{arith}
-use mathlib.Core.Path.{_≡_, refl, sym}
+use mathlib.Core.Path.{_≡_, sym, _∙_}
 use mathlib.Core.Logic.{inl, inr}
-use mathlib.Core.Bool.{true, false, cond}
+use mathlib.Core.Bool.{true, cond}
 use mathlib.Core.List.{List, [], _∷_}
-use lib.ListN.{length, drop}
-use lib.Dec.{eqb, ltb}
+use lib.ListN.{length, take, drop}
+use lib.Dec.{ltb}
+use mir.Syntax.{w64}
+use mir.Val.{Fits}
 use borrow.Author.Tests.{ltb-true, ne-eqb}
-use Rattle.house.specs.declared.House.{House}
 use Rattle.house.specs.declared.Opening.{Opening}
 use Rattle.house.specs.Opening.{wrongLength, openVerdict, opening}
 use Rattle.house.proofs.Tests.{is, clash, or-elim}
-use Rattle.desk.specs.Turn.{turned}
-use Rattle.desk.proofs.Laws.{share-fits, length-answered}
 use Rattle.dialogue.specs.declared.Fed.{Fed}
-use Rattle.dialogue.specs.declared.Dialogue.{Dialogue}
-use Rattle.dialogue.specs.declared.Stage.{Stage}
-use Rattle.dialogue.specs.declared.Stage.the-variants.{Waiting, Open, Refused}
-use Rattle.dialogue.specs.Dialogue.{announced, decided, levels, waits, drops, serves, opens, fed}
+use Rattle.dialogue.specs.declared.Stage.the-variants.{Refused}
+use Rattle.dialogue.specs.Dialogue.{announced, decided, levels, drops, serves, opens}
 
 -- a byte that is not 0 is there
 pub there : (b : List ℕ) → ltb 64 (announced b) ≡ true → 1 ≤ length b
@@ -44,58 +41,25 @@ opened-there b d o =
       | inr n ↦ rw n at (levels-there b d)
     ]
 
--- what becomes of them
-module _ (b room : List ℕ) (o : Opening) (is : o ≡ opening (levels b)) where
-  pub opens-open : (n : ℕ) → n ≡ announced b → o .number ≡ 0 → serves (o .house) (n + 1) b room ≡ opens b room
-  unfolding opens
-  opens-open n e z = rw (sym is, z, e)
+-- of the number n that came first, the m levels that are opened, and what their opening gave
+module _ (b : List ℕ) (n m : ℕ) (first : n ≡ announced b) (counted : m ≡ cond (ltb 64 n) 0 n) where
+  pub levels-end : decided b ≡ true → m + 1 ≤ length b
+  levels-end d = rw (counted, first) (levels-there b d)
 
-  pub opens-refused : (o .number ≡ 0 → ⊥) → drops (record { stage = Refused (o .number); house = o .house }) b room ≡ opens b room
-  unfolding opens
-  opens-refused z = rw (sym is, ne-eqb (o .number) 0 z)
+  pub levels-fit : decided b ≡ true → length b < 2 ^ 64 → Fits w64 (m + 1)
+  levels-fit d l = omega (arith, levels-end d)
 
--- stage by stage
-module _ (s : Dialogue) (b room : List ℕ) where
-  pub fed-opens : s .stage ≡ Waiting → decided b ≡ true → fed s b room ≡ opens b room
-  unfolding fed
-  fed-opens e d = rw (e, d)
+  module _ (o : Opening) (opened : o ≡ opening (take (m + 1 - 1) (drop 1 b))) where
+    opened-levels : o ≡ opening (levels b)
+    opened-levels = let e : m + 1 - 1 ≡ m = omega arith in rw (e, counted, first) at opened
 
-  pub fed-waits : s .stage ≡ Waiting → decided b ≡ false → fed s b room ≡ waits s room
-  unfolding fed
-  fed-waits e d = rw (e, d)
+    pub opened-past : (j : ℕ) → j ≤ 1 → decided b ≡ true → o .number ≡ 0 → n + j ≤ length b
+    opened-past j f d z = rw first (omega (arith, opened-there b d (rw opened-levels at z)))
 
-  pub fed-serves : s .stage ≡ Open → fed s b room ≡ serves (s .house) 0 b room
-  unfolding fed
-  fed-serves e = rw e
+    pub opens-open : (x : Fed × List ℕ) (room : List ℕ) → x ≡ serves (o .house) (n + 1) b room → o .number ≡ 0 → x ≡ opens b room
+    unfolding opens
+    opens-open x room s z = s ∙ rw (sym opened-levels, z, first)
 
-  pub fed-drops : (n : ℕ) → s .stage ≡ Refused n → fed s b room ≡ drops s b room
-  unfolding fed
-  fed-drops n e = rw e
-
--- what holds however bytes are taken, holds of all that are fed
-pub fed-cases : (P : Fed × List ℕ → Type 0) (stage : Stage) (h : House) (b room : List ℕ) → ((g : House) (k : ℕ) → P (serves g k b room)) → ((t : Dialogue) → P (drops t b room)) → ((t : Dialogue) → P (waits t room)) → P (fed (record { stage = stage; house = h }) b room)
-unfolding fed opens
-fed-cases P Waiting h b room serving dropping waiting =
-    elim (is (decided b)) [
-      | inl y ↦ rw y
-          (elim (is (eqb (opening (levels b) .number) 0)) [
-            | inl z ↦ rw z (serving (opening (levels b) .house) (announced b + 1))
-            | inr z ↦ rw z (dropping _)
-          ])
-      | inr n ↦ rw n (waiting _)
-    ]
-fed-cases P Open h b room serving dropping waiting = serving h 0
-fed-cases P (Refused n) h b room serving dropping waiting = dropping _
-
--- the reply bytes are as many as were lent, and those that were written are among them
-abbrev pub Within : List ℕ → Fed × List ℕ → Type 0
-Within room f = (length (f .1) ≡ length room) × (f .0 .written ≤ length (f .1))
-
-serves-within : (b room : List ℕ) (h : House) (k : ℕ) → Within room (serves h k b room)
-unfolding serves turned
-serves-within b room h k =
-    let same = length-answered h (drop k b) room (length b) in
-    (same, rw same (share-fits (length b) (drop k b) room .1))
-
-pub fed-within : (stage : Stage) (h : House) (b room : List ℕ) → Within room (fed (record { stage = stage; house = h }) b room)
-fed-within stage h b room = fed-cases (Within room) stage h b room (serves-within b room) (λ t. (refl, omega arith)) (λ t. (refl, omega arith))
+    pub opens-refused : (room : List ℕ) → (o .number ≡ 0 → ⊥) → drops (record { stage = Refused (o .number); house = o .house }) b room ≡ opens b room
+    unfolding opens
+    opens-refused room z = rw (sym opened-levels, ne-eqb (o .number) 0 z)

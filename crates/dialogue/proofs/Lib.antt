@@ -1,4 +1,6 @@
 pub mod Laws
+pub mod Serving
+pub mod Stages
 pub mod Keeping
 pub mod Settled
 pub mod Pieces

@@ -9,7 +9,7 @@ use mathlib.Core.List.{List, [], _∷_, _++_, append-assoc, append-nil}
 use lib.ListN.{length, take, drop, length-append, length-take, length-drop, List·getD-append}
 use lib.Seq.{take-at, drop-drop, drop-append-le, take-append-le, drop-length}
 use lib.Dec.{eqb, ltb, leb}
-use borrow.Author.Tests.{eqb-true, eqb-false, ltb-true, ltb-false, leb-false, le-leb, lt-leb, lt-ltb}
+use borrow.Author.Tests.{eqb-true, ltb-true, ltb-false, leb-false, le-leb, lt-leb, lt-ltb}
 use Rattle.house.specs.declared.House.{House}
 use Rattle.house.specs.Opening.{wrongLength, openVerdict, opening}
 use Rattle.house.specs.Run.{finally, replies}
@@ -20,11 +20,11 @@ use Rattle.desk.proofs.Laws.{requests-add, length-wired, wired-append}
 use Rattle.desk.proofs.TwoTurns.{requests-append}
 use Rattle.dialogue.specs.declared.Fed.{Fed}
 use Rattle.dialogue.specs.declared.Dialogue.{Dialogue}
-use Rattle.dialogue.specs.declared.Stage.{Stage}
-use Rattle.dialogue.specs.declared.Stage.the-variants.{Waiting, Open, Refused}
-use Rattle.dialogue.specs.Dialogue.{announced, decided, levels, refusal, atStage, started, ended, drops, serves, fed}
+use Rattle.dialogue.specs.declared.Stage.the-variants.{Waiting, Refused}
+use Rattle.dialogue.specs.Dialogue.{announced, decided, levels, refusal, atStage, started, ended, drops, serves, opens, fed}
 use Rattle.dialogue.specs.Pieces.{runOf, programmed, Piece, joined, farewell, conversed, Enough, Roomy, InPieces, LeavesLittle}
-use Rattle.dialogue.proofs.Laws.{there, opened-there, opens-open, opens-refused, fed-opens, fed-waits, fed-serves, fed-drops}
+use Rattle.dialogue.proofs.Laws.{there, opened-there}
+use Rattle.dialogue.proofs.Stages.{waiting, opened, refused, at-stage}
 
 -- these bytes first
 abbrev pub before : List ℕ → List ℕ × House → List ℕ × House
@@ -130,13 +130,17 @@ Unfinished s b = atStage (s .stage) (decided b ≡ false) (length b < 12) (Unit 
 unfoldable pub Fresh : Dialogue → Type 0
 Fresh s = atStage (s .stage) (s .house ≡ opening [] .house) (Unit {0}) (Unit {0})
 
-pub expected-last : (stage : Stage) (h : House) (b : List ℕ) → Fresh (record { stage = stage; house = h }) → Unfinished (record { stage = stage; house = h }) b → (farewell (ended stage), h) ≡ expected (record { stage = stage; house = h }) b
+pub expected-last : (s : Dialogue) (b : List ℕ) → Fresh s → Unfinished s b → (farewell (ended (s .stage)), s .house) ≡ expected s b
 unfolding expected Fresh Unfinished programmed runOf decided wired replies finally requests
-expected-last Waiting h b e u = rw (le-leb (length b) (announced b) (ltb-false (announced b) (length b) (or-false _ _ u .0)), e)
-expected-last Open h b e u =
-    let z : length b / 12 ≡ 0 = omega arith in
-    rw z
-expected-last (Refused m) h b e u = refl
+expected-last s b e u =
+    elim (at-stage (s .stage)) [
+      | waiting w ↦ rw (w, le-leb (length b) (announced b) (ltb-false (announced b) (length b) (or-false _ _ (rw w at u) .0)), rw w at e)
+      | opened o ↦
+          let short : length b < 12 = rw o at u in
+          let z : length b / 12 ≡ 0 = omega arith in
+          rw (o, z)
+      | refused m r ↦ rw r
+    ]
 
 -- BYTES GIVEN
 
@@ -178,43 +182,42 @@ refused-now b rest d z =
     ]
 
 -- to one that waits for its levels
-after-waiting : (h : House) (bytes room : List ℕ) → Enough bytes room → After (record { stage = Waiting; house = h }) bytes (fed (record { stage = Waiting; house = h }) bytes room)
-unfolding expected Unfinished decided
-after-waiting h bytes room enough =
-    let s : Dialogue = record { stage = Waiting; house = h } in
+after-waiting : (s : Dialogue) (bytes room : List ℕ) → s .stage ≡ Waiting → Enough bytes room → After s bytes (fed s bytes room)
+unfolding expected Unfinished decided fed opens
+after-waiting s bytes room w enough =
     let o = opening (levels bytes) in
     elim (is (decided bytes)) [
-      | inl y ↦ rw (fed-opens s bytes room refl y)
+      | inl y ↦ rw (w, y)
           (elim (is (eqb (o .number) 0)) [
             | inl z ↦
                 let zero : o .number ≡ 0 = eqb-true (o .number) 0 z in
                 let come = opened-there bytes y zero in
-                rw (sym (opens-open bytes room o refl (announced bytes) refl zero))
-                (after-serves s (o .house) (announced bytes + 1) bytes room come enough (λ future. sym (programmed-open bytes future come (few bytes zero) zero)))
-            | inr z ↦
-                rw (sym (opens-refused bytes room o refl (eqb-false (o .number) 0 z)))
-                (after-drops s _ (o .number) bytes room refl (λ future. refused-now bytes future y z))
+                rw z (after-serves _ (o .house) (announced bytes + 1) bytes room come enough (λ future. sym (programmed-open bytes future come (few bytes zero) zero)))
+            | inr z ↦ rw z (after-drops _ _ (o .number) bytes room refl (λ future. refused-now bytes future y z))
           ])
-      | inr n ↦ rw (fed-waits s bytes room refl n)
+      | inr n ↦ rw (w, n)
           (let u = or-false (ltb (announced bytes) (length bytes)) (ltb 64 (announced bytes)) n in
           record { same = λ future. refl; fresh = λ i. i; unfinished = n; little = omega (arith, ltb-false (announced bytes) (length bytes) (u .0), ltb-false 64 (announced bytes) (u .1)) })
     ]
 
-pub after : (stage : Stage) (h : House) (bytes room : List ℕ) → Enough bytes room → After (record { stage = stage; house = h }) bytes (fed (record { stage = stage; house = h }) bytes room)
-unfolding expected Unfinished
-after Waiting h bytes room enough = after-waiting h bytes room enough
-after Open h bytes room enough = rw (fed-serves (record { stage = Open; house = h }) bytes room refl) (after-serves _ h 0 bytes room (omega arith) enough (λ future. refl))
-after (Refused m) h bytes room enough = rw (fed-drops (record { stage = Refused m; house = h }) bytes room m refl) (after-drops _ _ m bytes room refl (λ future. refl))
+pub after : (s : Dialogue) (bytes room : List ℕ) → Enough bytes room → After s bytes (fed s bytes room)
+unfolding expected Unfinished fed
+after s bytes room enough =
+    elim (at-stage (s .stage)) [
+      | waiting w ↦ after-waiting s bytes room w enough
+      | opened o ↦ rw o (after-serves _ (s .house) 0 bytes room (omega arith) enough (λ future. refl))
+      | refused m r ↦ rw r (after-drops _ _ m bytes room refl (λ future. refl))
+    ]
 
 -- THE THEOREMS
 
 conversed-expected : (s : Dialogue) (unused : List ℕ) (ps : List Piece) → Fresh s → Unfinished s unused → Roomy s unused ps → conversed s unused ps ≡ expected s (unused ++ joined ps)
 unfolding conversed Roomy joined
-conversed-expected s unused [] e u r = rw (append-nil unused) (expected-last (s .stage) (s .house) unused e u)
+conversed-expected s unused [] e u r = rw (append-nil unused) (expected-last s unused e u)
 conversed-expected s unused (p ∷ ps) e u r =
     let bytes = unused ++ p .0 in
     let f = fed s bytes (p .1) in
-    let a = after (s .stage) (s .house) bytes (p .1) (r .0) in
+    let a = after s bytes (p .1) (r .0) in
     ap (before (take (f .0 .written) (f .1))) (conversed-expected (f .0 .dialogue) (drop (f .0 .used) bytes) ps (a .fresh e) (a .unfinished) (r .1))
     ∙ a .same (joined ps)
     ∙ ap (expected s) (append-assoc unused (p .0) (joined ps))
@@ -236,4 +239,4 @@ pub in-pieces : InPieces
 in-pieces ps r = conversed-expected started [] ps fresh-start nothing-yet r ∙ all-expected (joined ps)
 
 pub leaves-little : LeavesLittle
-leaves-little s bytes room enough = after (s .stage) (s .house) bytes room enough .little
+leaves-little s bytes room enough = after s bytes room enough .little

@@ -98,13 +98,16 @@ fn serve(h: House, k: usize, bytes: &[u8], replies: &mut [u8]) -> Fed
     let t = turn(h, &bytes[k..], replies, bytes.len());
     let house = t.house;
     let count = t.count;
+    let asked = count * 12;
+    let used = k + asked;
+    let written = count * 16;
     Fed {
         dialogue: Dialogue {
             stage: Stage::Open,
             house,
         },
-        used: k + count * 12,
-        written: count * 16,
+        used,
+        written,
     }
 }
 

@@ -1,7 +1,7 @@
 -- What the number of a request says: which check is the first that applies, and of one that no refusal meets where its
 -- transaction stands.
 -- Assumes nothing.
-use Prim.Native.Nat.{ℕ, _≤_, _<_}
+use Prim.Native.Nat.{ℕ, _<_}
 use native.Mathlib.Omega.{arith}
 use mathlib.Core.Path.{_≡_, refl, sym, ap, _∙_}
 use mathlib.Core.Logic.{_≢_, inl, inr}
@@ -19,6 +19,7 @@ use Rattle.house.specs.Cell.{holds}
 use Rattle.house.specs.Checks.{foremost, someApplies, testOf, before}
 use Rattle.house.specs.Rules.{asker, noOperation, noLevel, usesItem, unusedSet, unknown, noItem, forbidden, stopped, untimely, wornOut, crowded, ticketless, delayed, refusals, checks, verdict, waitsAt}
 use Rattle.house.proofs.Tests.{is, clash, and-true, and-right-false, and-no, or-false, not-of}
+use Rattle.house.proofs.Operations.{OperationOf, operation-of}
 use Rattle.house.proofs.Searches.{scan-same, any-none}
 
 -- LISTS OF CHECKS
@@ -96,7 +97,7 @@ given-last l n b z m d =
 
 -- what a request that no refusal meets has passed, check by check
 pub record Clear (h : House) (q : Request) : Type 0 where
-  pub operation : q .operation ≤ 6
+  pub operation : OperationOf q
   pub level : q .level < 4
   pub unused : unusedSet q ≡ false
   pub known : unknown h q ≡ false
@@ -113,7 +114,7 @@ unfolding refusals noOperation noLevel
 clear h q e =
     let past = test-fails (refusals h q) (none-applies (refusals h q) refl e) in
     record {
-      operation = ltb-false 6 (q .operation) (past 3);
+      operation = operation-of q (past 3);
       level = omega (arith, ltb-false 3 (q .level) (past 4));
       unused = past 5;
       known = past 6;

@@ -1,8 +1,10 @@
 pub mod Unfolding
+pub mod Operations
 pub mod Tests
 pub mod Levels
 pub mod Searches
 pub mod Lists
+pub mod Branches
 pub mod Cells
 pub mod Holders
 pub mod Places

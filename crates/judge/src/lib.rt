@@ -12,7 +12,7 @@ ghost use Rattle.house.specs.Search.{find};
 ghost use Rattle.house.specs.House.{dominates, freeAt};
 ghost use Rattle.house.specs.Rules.{noOperation, noLevel, unusedSet, readAnswer, askAnswer};
 ghost use Rattle.ruling.specs.Ruling.{refusal, grant};
-ghost use Rattle.ruling.specs.Judged.{Judged, moved, beginRuled, readRuled, writeRuled, certifyRuled, commitRuled, knownRuled};
+ghost use Rattle.ruling.specs.Judged.{Judged, beginRuled, readRuled, writeRuled, certifyRuled, commitRuled, knownRuled};
 use house::Answer;
 use house::Found;
 use house::Item;
@@ -102,12 +102,13 @@ fn answer_ask(cells: &[u8; 2048], me: usize) -> Answer
     let Found::At(i) = first_signalled(cells, me) else {
         return Answer::Signals(0, count);
     };
-    Answer::Signals(i as u16, count)
+    let lowest = i as u16;
+    Answer::Signals(lowest, count)
 }
 
 fn judge_begin(eight: [Place; 8], ticket: u32, level: usize) -> Ruling
     requires { ⌜ level < 4 ⌝ }
-    ensures { λ r. ⌜ r ≡ beginRuled (moved (level * 8) (find (freeAt eight) 0 8)) ticket level ⌝ }
+    ensures { λ r. ⌜ r ≡ beginRuled (find (freeAt eight) 0 8) ticket level ⌝ }
 {
     let Found::At(k) = lowest_free(eight) else {
         return refuse(11);
@@ -115,7 +116,9 @@ fn judge_begin(eight: [Place; 8], ticket: u32, level: usize) -> Ruling
     if ticket == 0 {
         return refuse(12);
     }
-    allow(Answer::Ticket(ticket), Change::Begin(level, level * 8 + k))
+    let first = level * 8;
+    let me = first + k;
+    allow(Answer::Ticket(ticket), Change::Begin(level, me))
 }
 
 fn judge_read(case: Case, cells: &[u8; 2048]) -> Ruling
@@ -254,12 +257,14 @@ pub fn judge(view: View, cells: &[u8; 2048], q: Request) -> Ruling
     };
     let seat = eight[k];
     let row = view.row;
+    let first = level * 8;
+    let me = first + k;
     let case = Case {
         request: q,
         count: view.count,
         row,
         pending: view.pending,
-        me: level * 8 + k,
+        me,
         seat,
     };
     judge_known(case, cells)

@@ -41,7 +41,8 @@ pub fn perform(h: House, change: Change) -> House
         Change::Nothing => {}
         Change::Begin(l, me) => {
             let t = h.next[l];
-            h.places[me] = active(t);
+            let taken = active(t);
+            h.places[me] = taken;
             h.next[l] = next_ticket(t);
         }
         Change::Read(me, i) => mark_cell(&mut h.cells, Mark::Read, me, i),
@@ -52,7 +53,8 @@ pub fn perform(h: House, change: Change) -> House
         Change::Certify(me) => {
             certify_cells(&mut h.cells, me);
             let place = h.places[me];
-            h.places[me] = certified(place);
+            let seat = certified(place);
+            h.places[me] = seat;
         }
         Change::End(me, commits) => {
             let claimed = has_claimed(&h.cells, me);
@@ -67,7 +69,8 @@ pub fn perform(h: House, change: Change) -> House
                 h.pending = dropped;
             }
             clear_cells(&mut h.cells, me);
-            h.places[me] = left_free();
+            let left = left_free();
+            h.places[me] = left;
         }
     }
     h

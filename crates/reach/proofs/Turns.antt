@@ -19,7 +19,8 @@ use Rattle.house.specs.Search.{ifFound}
 use Rattle.house.specs.Cell.{has, cellAt, holds, otherHolds, isSignalled}
 use Rattle.house.specs.House.{dominates, levelOf, itemAt, placeAt, nextAt, isFree, isCertified, vacancy}
 use Rattle.house.specs.Checks.{foremost}
-use Rattle.house.specs.Rules.{asker, forbidden, stopped, untimely, wornOut, crowded, ticketless, waitsAt, conflict, delayed, refusals, checks, verdict, begun, readBy, readFor, writtenBy, certifiedBy, committedBy, abortedBy, askAnswer, outcome, served, performed, stepped}
+use Rattle.house.specs.Rules.{begin, asker, forbidden, stopped, untimely, wornOut, crowded, ticketless, waitsAt, conflict, delayed, refusals, verdict, begun, readBy, readFor, writtenBy, certifiedBy, committedBy, abortedBy, askAnswer, outcome, served, performed, stepped}
+use Rattle.house.proofs.Operations.{is-begin, is-read, is-write, is-certify, is-commit, is-abort, is-ask, not-begin}
 use Rattle.house.proofs.Tests.{is, same, clash, or-false, and-right-false, not-is}
 use Rattle.house.proofs.Searches.{any-none}
 use Rattle.house.proofs.Holders.{other-none, peer-none}
@@ -96,38 +97,9 @@ pub done-is : (h : House) (q : Request) → verdict h q ≡ 0 → stepped h q �
 unfolding stepped
 done-is h q e = rw e
 
-begun-is : (h : House) (q : Request) (me : ℕ) → q .operation ≡ 0 → vacancy (h .places) (q .level) ≡ At me → performed h q ≡ outcome (begun h (q .level) me) q (Ticket (nextAt (h .next) (q .level)))
+begun-is : (h : House) (q : Request) (me : ℕ) → q .operation ≡ begin → vacancy (h .places) (q .level) ≡ At me → performed h q ≡ outcome (begun h (q .level) me) q (Ticket (nextAt (h .next) (q .level)))
 unfolding performed
 begun-is h q me o a = rw (o, a)
-
-served-is : (h : House) (q : Request) (me : ℕ) → q .operation ≢ 0 → asker h q ≡ At me → performed h q ≡ served h q me
-unfolding performed
-served-is h q me n a = rw (ne-eqb (q .operation) 0 n, a)
-
-module _ (h : House) (q : Request) (me : ℕ) where
-  read-is : q .operation ≡ 1 → served h q me ≡ outcome (readBy h me (q .item)) q (readFor h me (q .item))
-  unfolding served
-  read-is o = rw o
-
-  write-is : q .operation ≡ 2 → served h q me ≡ outcome (writtenBy h me (q .item) (q .value)) q Done
-  unfolding served
-  write-is o = rw o
-
-  certify-is : q .operation ≡ 3 → served h q me ≡ outcome (certifiedBy h me) q Done
-  unfolding served
-  certify-is o = rw o
-
-  commit-is : q .operation ≡ 4 → served h q me ≡ outcome (committedBy h me) q Done
-  unfolding served
-  commit-is o = rw o
-
-  abort-is : q .operation ≡ 5 → served h q me ≡ outcome (abortedBy h me) q Done
-  unfolding served
-  abort-is o = rw o
-
-  ask-is : q .operation ≡ 6 → served h q me ≡ outcome h q (askAnswer (h .cells) me)
-  unfolding served
-  ask-is o = rw o
 
 -- one who is delayed is found, and has the conflict
 pub delayed-at : (h : House) (q : Request) → delayed h q ≡ true → (me : ℕ) × (asker h q ≡ At me) × (conflict (h .cells) q me ≡ true)
@@ -200,35 +172,24 @@ module _ (h : House) (q : Request) (z : foremost (refusals h q) ≡ 0) where
           unsignalled = rw (o, A .at) at (c .unstopped);
         }
 
-    turn-served : q .operation ≢ 0 → Turn h q (served h q me)
-    turn-served n0 =
-        elim (same (q .operation) 1) [
-          | inl o ↦ rw (read-is h q me o) (reads me o A (may-read o))
-          | inr n1 ↦
-              elim (same (q .operation) 2) [
-                | inl o ↦ rw (write-is h q me o) (writes me o A (may-write o))
-                | inr n2 ↦
-                    elim (same (q .operation) 3) [
-                      | inl o ↦ rw (certify-is h q me o) (certifies me o A (may-certify o))
-                      | inr n3 ↦
-                          elim (same (q .operation) 4) [
-                            | inl o ↦ rw (commit-is h q me o) (commits me o A (may-commit o))
-                            | inr n4 ↦
-                                elim (same (q .operation) 5) [
-                                  | inl o ↦ rw (abort-is h q me o) (aborts me o A)
-                                  | inr n5 ↦
-                                      let o : q .operation ≡ 6 = let b = c .operation in omega arith in
-                                      rw (ask-is h q me o) (asks me o A)
-                                ]
-                          ]
-                    ]
-              ]
-        ]
+  -- the transaction that asks for anything but a begin
+  by-asker : q .operation ≢ begin → ((me : ℕ) → Asker h q me → Turn h q (served h q me)) → Turn h q (performed h q)
+  unfolding performed
+  by-asker o does = let k = asker-known h q o z in rw (ne-eqb (q .operation) begin o, k .1) (does (k .0) (found (c .level) (k .1)))
+
+  yields : {x y : Outcome} → Turn h q y → x ≡ y → Turn h q x
+  yields t e = rw e t
 
   turn-done : delayed h q ≡ false → Turn h q (performed h q)
-  turn-done d = elim (same (q .operation) 0) [
-    | inl o ↦ let b = may-begin o in rw (begun-is h q (b .0) o (b .1)) (begins (b .0) o (b .2))
-    | inr n ↦ let k = asker-known h q n z in rw (served-is h q (k .0) n (k .1)) (turn-served (k .0) (found (c .level) (k .1)) d n)
+  unfolding served
+  turn-done d = elim (c .operation) [
+    | is-begin o ↦ let b = may-begin o in yields (begins (b .0) o (b .2)) (begun-is h q (b .0) o (b .1))
+    | is-read o ↦ by-asker (not-begin o) (λ me A. yields (reads me o A (may-read me A d o)) (rw o))
+    | is-write o ↦ by-asker (not-begin o) (λ me A. yields (writes me o A (may-write me A d o)) (rw o))
+    | is-certify o ↦ by-asker (not-begin o) (λ me A. yields (certifies me o A (may-certify me A d o)) (rw o))
+    | is-commit o ↦ by-asker (not-begin o) (λ me A. yields (commits me o A (may-commit me A d o)) (rw o))
+    | is-abort o ↦ by-asker (not-begin o) (λ me A. yields (aborts me o A) (rw o))
+    | is-ask o ↦ by-asker (not-begin o) (λ me A. yields (asks me o A) (rw o))
   ]
 
 -- every request is one of them

@@ -7,10 +7,10 @@ use mathlib.Core.Path.{_≡_, refl, sym, ap, _∙_}
 use mathlib.Core.Logic.{_≢_, inl, inr}
 use mathlib.Core.Bool.{Bool, true, false, cond, _||_, not}
 use mathlib.Core.List.{List, [], _∷_, _++_}
-use lib.ListN.{getD, replicate, length-replicate}
+use lib.ListN.{length, drop, getD, replicate, length-replicate}
 use lib.Seq.{getD-append-add}
 use lib.Dec.{eqb, leb}
-use borrow.Author.Tests.{ne-eqb, ltb-false, leb-false, not-true}
+use borrow.Author.Tests.{eq-eqb, ne-eqb, ltb-false, leb-false, not-true}
 use Rattle.house.specs.declared.Found.{Found}
 use Rattle.house.specs.declared.Found.the-variants.{At, Nobody}
 use Rattle.house.specs.declared.House.{House}
@@ -20,17 +20,19 @@ use Rattle.house.specs.declared.Request.{Request}
 use Rattle.house.specs.Checks.{foremost}
 use Rattle.house.specs.Search.{scan, find, ifFound, nobody}
 use Rattle.house.specs.House.{blank, vacant, itemAt, pendingAt, placeAt, nextAt, freeAt, hasTicket, seek, vacancy}
-use Rattle.house.specs.Rules.{read, write, certify, _does_, asker, noOperation, noLevel, unusedSet, unknown, noItem, forbidden, stopped, untimely, wornOut, crowded, ticketless, conflict, delayed, refusals, checks, verdict, askAnswer}
+use Rattle.house.specs.Rules.{begin, _does_, asker, noOperation, noLevel, unusedSet, conflict, checks, verdict}
+use Rattle.house.proofs.Unfolding.{tests}
+use Rattle.house.proofs.Operations.{operation-of, is-begin, is-read, is-write, is-certify, is-commit, is-abort, is-ask}
 use Rattle.house.proofs.Tests.{is, same, and-true, or-right}
 use Rattle.house.proofs.Checks.{numbered}
 use Rattle.house.proofs.Searches.{find-at}
-use Rattle.house.specs.declared.Answer.the-variants.{Done, Ticket}
+use Rattle.house.specs.declared.Answer.the-variants.{Ticket}
 use Rattle.ruling.specs.declared.Case.{Case}
-use Rattle.ruling.specs.declared.Change.the-variants.{Nothing, Begin, End}
+use Rattle.ruling.specs.declared.Change.the-variants.{Begin}
 use Rattle.ruling.specs.declared.Ruling.{Ruling}
 use Rattle.ruling.specs.declared.View.{View}
 use Rattle.ruling.specs.Ruling.{refusal, grant, granted, ruled}
-use Rattle.ruling.specs.Judged.{Shown, Judged, moved, found, chain, beginRuled, readRuled, writeRuled, certifyRuled, commitRuled, knownRuled}
+use Rattle.ruling.specs.Judged.{Shown, Judged, found, chain, beginRuled, readRuled, writeRuled, certifyRuled, commitRuled, knownRuled}
 
 -- The checks one by one: the ruling of the first that applies, or what is granted
 
@@ -41,10 +43,14 @@ chained (x ∷ xs) g n =
     elim (is (x .1)) [ inl y ↦ rw (y, not-true (eqb (x .0) 0) (k .0)) | inr y ↦ rw y (chained xs g (k .1)) ]
 
 ruled-chain : (h : House) (q : Request) → ruled h q ≡ chain (checks h q) (granted h q)
-unfolding ruled verdict refusals checks
+unfolding ruled verdict tests
 ruled-chain h q = chained (checks h q) (granted h q) refl
 
 -- A search over the 32 from b on is one over the eight, moved
+
+abbrev moved : ℕ → Found → Found
+moved b (At k) = At (b + k)
+moved b Nobody = Nobody
 
 from-j : (f g : ℕ → Bool) (b j n : ℕ) → ((k : ℕ) → k < j + n → f (b + k) ≡ g k) → find f (b + j) n ≡ moved b (find g j n)
 unfolding scan
@@ -64,112 +70,61 @@ find-moved f g b n e = rw (add-zero b) at (from-j f g b 0 n (λ k h. e k (omega 
 abbrev made : ℕ → Item → ℕ → Place → Request → ℕ → Case
 made count x v s q me = record { request = q; count = count; row = x; pending = v; me = me; seat = s }
 
--- The first three checks look at the request alone
+-- THE RULING OVER WHAT IS SHOWN: the checks that look at the request alone, and then a begin, or the operation of the transaction found
 
-pub record Formed (q : Request) : Type 0 where
-  pub operation : noOperation q ≡ false
-  pub level : noLevel q ≡ false
-  pub unused : unusedSet q ≡ false
+abbrev requestChecks : Request → List (ℕ × Bool)
+requestChecks q = (3, noOperation q) ∷ (4, noLevel q) ∷ (5, unusedSet q) ∷ []
 
-pub level-below : (q : Request) → Formed q → q .level < 4
-unfolding noLevel
-level-below q f = omega (arith, ltb-false 3 (q .level) (f .level))
+abbrev operationRuled : View → List ℕ → Request → Ruling
+operationRuled v cells q =
+    let begin′ = beginRuled (find (freeAt (v .eight)) 0 8) (v .ticket) (q .level) in
+    let others = ifFound (find (hasTicket (v .eight) (q .ticket)) 0 8) (λ k. knownRuled (found v q k) cells) (refusal 6) in
+    cond (q does begin) begin′ others
+
+unfoldable pub shownRuled : View → List ℕ → Request → Ruling
+shownRuled v cells q = chain (requestChecks q) (operationRuled v cells q)
+
+-- WHAT IS RULED, over the house, past the checks of the request alone
+
+granted-begin : (free : Found) (t l : ℕ) → let all = moved (l * 8) free in
+    cond (nobody all) (refusal 11) (cond (eqb t 0) (refusal 12) (ifFound all (λ me. grant (Ticket t) (Begin l me)) (refusal 11))) ≡ beginRuled free t l
+unfolding beginRuled
+granted-begin (At k) t l = refl
+granted-begin Nobody t l = refl
 
 module _ (h : House) (q : Request) where
-  no-operation : noOperation q ≡ true → ruled h q ≡ refusal 3
-  unfolding refusals checks
-  no-operation e = ruled-chain h q ∙ rw e
+  -- the checks of the request alone have passed: the rest of the chain decides
+  abbrev rest : Ruling
+  rest = chain (drop (length (requestChecks q)) (checks h q)) (granted h q)
 
-  no-level : noOperation q ≡ false → noLevel q ≡ true → ruled h q ≡ refusal 4
-  unfolding refusals checks
-  no-level a e = ruled-chain h q ∙ rw (a, e)
+  undelayed : (who : Found) → q .operation ≡ begin → ifFound who (conflict (h .cells) q) false ≡ false
+  unfolding conflict
+  undelayed (At me) o = rw o
+  undelayed Nobody o = refl
 
-  unused-set : noOperation q ≡ false → noLevel q ≡ false → unusedSet q ≡ true → ruled h q ≡ refusal 5
-  unfolding refusals checks
-  unused-set a b e = ruled-chain h q ∙ rw (a, b, e)
+  begin-ruled : q .operation ≡ begin → (free : Found) → vacancy (h .places) (q .level) ≡ moved (q .level * 8) free → rest ≡ beginRuled free (nextAt (h .next) (q .level)) (q .level)
+  unfolding tests granted
+  begin-ruled o free e = rw (undelayed (asker h q) o, o, e) (granted-begin free (nextAt (h .next) (q .level)) (q .level))
 
-  -- Past them
+  unknown-ruled : q .operation ≢ begin → asker h q ≡ Nobody → rest ≡ refusal 6
+  unfolding tests
+  unknown-ruled o e = rw (ne-eqb (q .operation) 0 o, e)
 
-  module _ (f : Formed q) where
-    unknown-ruled : q .operation ≢ 0 → asker h q ≡ Nobody → ruled h q ≡ refusal 6
-    unfolding refusals checks unknown
-    unknown-ruled o e = ruled-chain h q ∙ rw (f .operation, f .level, f .unused, ne-eqb (q .operation) 0 o, e)
+  module _ (me : ℕ) (at : asker h q ≡ At me) where
+    abbrev case : Case
+    case = made (h .count) (itemAt (h .items) (q .item)) (pendingAt (h .pending) (q .item)) (placeAt (h .places) me) q me
 
-    -- what a test of the operation's number comes to
-    told : (n : ℕ) → q .operation ≡ n → (k : ℕ) → q does k ≡ eqb n k
-    told n o k = ap (λ m. eqb m k) o
-
-    -- a request that waits for no lock is not delayed
-    undelayed : (who : Found) → q does read ≡ false → q does write ≡ false → q does certify ≡ false → ifFound who (conflict (h .cells) q) false ≡ false
-    unfolding conflict
-    undelayed (At me) r w c = rw (r, w, c)
-    undelayed Nobody r w c = refl
-
-    granted-begin : (free : Found) (t : ℕ) (l : ℕ) → cond (nobody free) (refusal 11) (cond (eqb t 0) (refusal 12) (ifFound free (λ me. grant (Ticket t) (Begin l me)) (refusal 11))) ≡ beginRuled free t l
-    unfolding beginRuled
-    granted-begin (At me) t l = refl
-    granted-begin Nobody t l = refl
-
-    begin-ruled : q .operation ≡ 0 → ruled h q ≡ beginRuled (vacancy (h .places) (q .level)) (nextAt (h .next) (q .level)) (q .level)
-    unfolding refusals checks unknown noItem forbidden stopped untimely wornOut crowded ticketless delayed granted
-    begin-ruled o =
-        ruled-chain h q
-        ∙ rw (f .operation, f .level, f .unused, undelayed (asker h q) (told 0 o 1) (told 0 o 2) (told 0 o 3), told 0 o 0, told 0 o 1, told 0 o 2, told 0 o 3, told 0 o 4)
-        (granted-begin (vacancy (h .places) (q .level)) (nextAt (h .next) (q .level)) (q .level))
-
-    module _ (me : ℕ) (at : asker h q ≡ At me) where
-      abbrev case : Case
-      case = made (h .count) (itemAt (h .items) (q .item)) (pendingAt (h .pending) (q .item)) (placeAt (h .places) me) q me
-
-      read-ruled : q .operation ≡ 1 → ruled h q ≡ readRuled case (h .cells)
-      unfolding refusals checks unknown noItem forbidden stopped untimely wornOut crowded ticketless delayed conflict granted readRuled
-      read-ruled o = ruled-chain h q ∙ simp (f .operation, f .level, f .unused, at, told 1 o 0, told 1 o 1, told 1 o 2, told 1 o 3, told 1 o 4, told 1 o 5)
-
-      write-ruled : q .operation ≡ 2 → ruled h q ≡ writeRuled case (h .cells)
-      unfolding refusals checks unknown noItem forbidden stopped untimely wornOut crowded ticketless delayed conflict granted writeRuled
-      write-ruled o = ruled-chain h q ∙ simp (f .operation, f .level, f .unused, at, told 2 o 0, told 2 o 1, told 2 o 2, told 2 o 3, told 2 o 4, told 2 o 5)
-
-      certify-ruled : q .operation ≡ 3 → ruled h q ≡ certifyRuled case (h .cells)
-      unfolding refusals checks unknown noItem forbidden stopped untimely wornOut crowded ticketless delayed conflict granted certifyRuled
-      certify-ruled o = ruled-chain h q ∙ simp (f .operation, f .level, f .unused, at, told 3 o 0, told 3 o 1, told 3 o 2, told 3 o 3, told 3 o 4, told 3 o 5)
-
-      commit-ruled : q .operation ≡ 4 → ruled h q ≡ commitRuled case (h .cells)
-      unfolding refusals checks unknown noItem forbidden stopped untimely wornOut crowded ticketless delayed conflict granted commitRuled
-      commit-ruled o = ruled-chain h q ∙ simp (f .operation, f .level, f .unused, at, told 4 o 0, told 4 o 1, told 4 o 2, told 4 o 3, told 4 o 4, told 4 o 5)
-
-      abort-ruled : q .operation ≡ 5 → ruled h q ≡ grant Done (End me false)
-      unfolding refusals checks unknown noItem forbidden stopped untimely wornOut crowded ticketless delayed conflict granted
-      abort-ruled o = ruled-chain h q ∙ simp (f .operation, f .level, f .unused, at, told 5 o 0, told 5 o 1, told 5 o 2, told 5 o 3, told 5 o 4, told 5 o 5)
-
-      ask-ruled : q .operation ≡ 6 → ruled h q ≡ grant (askAnswer (h .cells) me) Nothing
-      unfolding refusals checks unknown noItem forbidden stopped untimely wornOut crowded ticketless delayed conflict granted
-      ask-ruled o = ruled-chain h q ∙ simp (f .operation, f .level, f .unused, at, told 6 o 0, told 6 o 1, told 6 o 2, told 6 o 3, told 6 o 4, told 6 o 5)
-
-      last : q .operation ≢ 0 → q .operation ≢ 1 → q .operation ≢ 2 → q .operation ≢ 3 → q .operation ≢ 4 → q .operation ≢ 5 → q .operation ≡ 6
-      unfolding noOperation
-      last a b c d e g = omega (arith, ltb-false 6 (q .operation) (f .operation))
-
-      known-ruled : q .operation ≢ 0 → ruled h q ≡ knownRuled case (h .cells)
-      unfolding knownRuled
-      known-ruled o =
-          elim (same (q .operation) 1) [
-            | inl r ↦ rw (told 1 r 1) (read-ruled r)
-            | inr nr ↦ elim (same (q .operation) 2) [
-              | inl w ↦ rw (told 2 w 1, told 2 w 2) (write-ruled w)
-              | inr nw ↦ elim (same (q .operation) 3) [
-                | inl c ↦ rw (told 3 c 1, told 3 c 2, told 3 c 3) (certify-ruled c)
-                | inr nc ↦ elim (same (q .operation) 4) [
-                  | inl k ↦ rw (told 4 k 1, told 4 k 2, told 4 k 3, told 4 k 4) (commit-ruled k)
-                  | inr nk ↦ elim (same (q .operation) 5) [
-                    | inl a ↦ rw (told 5 a 1, told 5 a 2, told 5 a 3, told 5 a 4, told 5 a 5) (abort-ruled a)
-                    | inr na ↦
-                        let e = last o nr nw nc nk na in
-                        rw (told 6 e 1, told 6 e 2, told 6 e 3, told 6 e 4, told 6 e 5) (ask-ruled e)
-                  ]
-                ]
-              ]
-            ]
-          ]
+    known-ruled : noOperation q ≡ false → q .operation ≢ begin → rest ≡ knownRuled case (h .cells)
+    unfolding tests granted knownRuled readRuled writeRuled certifyRuled commitRuled
+    known-ruled n b = elim (operation-of q n) [
+      | is-begin o ↦ absurd (b o)
+      | is-read o ↦ simp (at, o)
+      | is-write o ↦ simp (at, o)
+      | is-certify o ↦ simp (at, o)
+      | is-commit o ↦ simp (at, o)
+      | is-abort o ↦ simp (at, o)
+      | is-ask o ↦ simp (at, o)
+    ]
 
 -- The row and the pending value of an item that the house has not are not looked at
 
@@ -188,48 +143,49 @@ module _ (q : Request) (me : ℕ) where
         | inr b ↦ let a = leb-false 64 (q .item) b in rw (r a, p a)
       ])
 
--- What the judge finds out step by step is `Judged`
+-- The one is the other, for every house of which that is shown
 
-module _ (v : View) (cells : List ℕ) (q : Request) where
-  pub judged-3 : noOperation q ≡ true → Judged v cells q (refusal 3)
-  unfolding Judged
-  judged-3 e h k = sym (no-operation h q e)
+-- past a test that fails, only the rest counts
+unless : {A : Type 0} (t : Bool) (a x y : A) → (t ≡ false → x ≡ y) → cond t a x ≡ cond t a y
+unless true a x y e = refl
+unless false a x y e = e refl
 
-  pub judged-4 : noOperation q ≡ false → noLevel q ≡ true → Judged v cells q (refusal 4)
-  unfolding Judged
-  judged-4 a e h k = sym (no-level h q a e)
+module _ (v : View) (cells : List ℕ) (q : Request) (h : House) (k : Shown h q v cells) where
+  module _ (known : noOperation q ≡ false) (low : noLevel q ≡ false) where
+    level : q .level < 4
+    unfolding noLevel
+    level = omega (arith, ltb-false 3 (q .level) low)
 
-  pub judged-5 : noOperation q ≡ false → noLevel q ≡ false → unusedSet q ≡ true → Judged v cells q (refusal 5)
-  unfolding Judged
-  judged-5 a b e h k = sym (unused-set h q a b e)
+    seek-eight : asker h q ≡ moved (q .level * 8) (find (hasTicket (v .eight) (q .ticket)) 0 8)
+    unfolding seek hasTicket freeAt
+    seek-eight = find-moved _ _ (q .level * 8) 8 (λ n b. rw (k .places level n b))
 
-  module _ (f : Formed q) where
-    abbrev level : q .level < 4
-    level = level-below q f
+    vacancy-eight : vacancy (h .places) (q .level) ≡ moved (q .level * 8) (find (freeAt (v .eight)) 0 8)
+    unfolding vacancy freeAt
+    vacancy-eight = find-moved _ _ (q .level * 8) 8 (λ n b. rw (k .places level n b))
 
-    module _ (h : House) (k : Shown h q v cells) where
-      seek-eight : asker h q ≡ moved (q .level * 8) (find (hasTicket (v .eight) (q .ticket)) 0 8)
-      unfolding seek hasTicket freeAt
-      seek-eight = find-moved _ _ (q .level * 8) 8 (λ n b. rw (k .places level n b))
-
-      vacancy-eight : vacancy (h .places) (q .level) ≡ moved (q .level * 8) (find (freeAt (v .eight)) 0 8)
-      unfolding vacancy freeAt
-      vacancy-eight = find-moved _ _ (q .level * 8) 8 (λ n b. rw (k .places level n b))
-
-    pub judged-6 : q .operation ≢ 0 → find (hasTicket (v .eight) (q .ticket)) 0 8 ≡ Nobody → Judged v cells q (refusal 6)
-    unfolding Judged
-    judged-6 o e h k = sym (unknown-ruled h q f o (seek-eight h k ∙ rw e))
-
-    pub judged-begin : q .operation ≡ 0 → Judged v cells q (beginRuled (moved (q .level * 8) (find (freeAt (v .eight)) 0 8)) (v .ticket) (q .level))
-    unfolding Judged
-    judged-begin o h k = sym (begin-ruled h q f o ∙ rw (vacancy-eight h k, k .ticket level))
-
-    pub judged-known : q .operation ≢ 0 → (n : ℕ) → find (hasTicket (v .eight) (q .ticket)) 0 8 ≡ At n → Judged v cells q (knownRuled (found v q n) cells)
-    unfolding Judged
-    judged-known o n e h k =
+    others-shown : q .operation ≢ begin → (who : Found) → find (hasTicket (v .eight) (q .ticket)) 0 8 ≡ who → rest h q ≡ ifFound who (λ n. knownRuled (found v q n) cells) (refusal 6)
+    others-shown o Nobody e = unknown-ruled h q o (seek-eight ∙ rw e)
+    others-shown o (At n) e =
         let b = find-at (hasTicket (v .eight) (q .ticket)) 0 8 n e in
         let me = q .level * 8 + n in
-        sym (known-ruled h q f me (seek-eight h k ∙ rw e) o ∙ case-same q me (k .count) (k .row) (k .pending) (k .places level n (omega arith)) (k .cells))
+        known-ruled h q me (seek-eight ∙ rw e) known o ∙ case-same q me (k .count) (k .row) (k .pending) (k .places level n (omega arith)) (k .cells)
+
+    rest-shown : rest h q ≡ operationRuled v cells q
+    rest-shown = elim (same (q .operation) begin) [
+      | inl o ↦ rw (eq-eqb _ _ o) (begin-ruled h q o (find (freeAt (v .eight)) 0 8) vacancy-eight ∙ rw (k .ticket level))
+      | inr o ↦ rw (ne-eqb _ _ o) (others-shown o _ refl)
+    ]
+
+  ruled-shown : ruled h q ≡ shownRuled v cells q
+  unfolding tests shownRuled
+  ruled-shown =
+      ruled-chain h q
+      ∙ unless (noOperation q) _ _ _ (λ a. unless (noLevel q) _ _ _ (λ b. unless (unusedSet q) _ _ _ (λ c. rest-shown a b)))
+
+pub judged : (v : View) (cells : List ℕ) (q : Request) (r : Ruling) → r ≡ shownRuled v cells q → Judged v cells q r
+unfolding Judged
+judged v cells q r e h k = e ∙ sym (ruled-shown v cells q h k)
 
 -- Some house shows what the judge is shown, whatever that is; so `Judged` settles the ruling
 

@@ -1,17 +1,19 @@
 -- The ruling of a request and the change made of it are the step of the rules.
 -- Assumes nothing.
-use Prim.Native.Nat.{_<_}
+use Prim.Native.Nat.{ℕ, _<_}
 use mathlib.Core.Path.{_≡_, refl}
-use mathlib.Core.Logic.{inl, inr}
+use mathlib.Core.Logic.{_≢_, inl, inr}
 use mathlib.Core.Bool.{true, false}
 use lib.Dec.{eqb, ltb}
-use borrow.Author.Tests.{eqb-true, eqb-false, lt-ltb}
+use borrow.Author.Tests.{eqb-true, lt-ltb}
+use Rattle.house.specs.declared.Found.the-variants.{At}
 use Rattle.house.specs.declared.House.{House}
 use Rattle.house.specs.declared.Request.{Request}
 use Rattle.house.specs.House.{Sizes, vacancy}
 use Rattle.house.specs.Checks.{foremost}
-use Rattle.house.specs.Rules.{begin, read, write, certify, commit, abort, _does_, usesItem, crowded, refusals, verdict, outcome, served, performed, stepped}
-use Rattle.house.proofs.Tests.{is, and-intro, and-right-false, or-left, or-right}
+use Rattle.house.specs.Rules.{begin, asker, usesItem, crowded, refusals, verdict, outcome, served, performed, stepped}
+use Rattle.house.proofs.Operations.{is-begin, is-read, is-write, is-certify, is-commit, is-abort, is-ask, not-begin}
+use Rattle.house.proofs.Tests.{is, and-intro}
 use Rattle.house.proofs.Places.{seek-at, vacancy-at}
 use Rattle.house.proofs.Effects.{begun-sizes, read-sizes, written-sizes, certified-sizes, left-sizes, committed-sizes}
 use Rattle.house.proofs.Checks.{Clear, clear, item-there, passes, somebody, asker-known}
@@ -34,38 +36,30 @@ module _ (h : House) (q : Request) (passed : verdict h q ≡ 0) where
   abbrev Made : Type 0
   Made = (performed h q ≡ outcome (effect h (granted h q .change)) q (granted h q .answer)) × (fits (granted h q .change) ≡ true)
 
-  begin-made : q does begin ≡ true → Made
+  begin-made : q .operation ≡ begin → Made
   unfolding performed granted crowded
-  begin-made b =
-      let free = somebody (vacancy (h .places) (q .level)) (and-right-false (q does begin) _ b (c .roomy)) in
+  begin-made o =
+      let free = somebody (vacancy (h .places) (q .level)) (rw o at (c .roomy)) in
       let at = vacancy-at (h .places) (q .level) (free .0) (c .level) (free .1) in
-      rw (b, free .1) (refl, and-intro _ _ (lt-ltb (q .level) 4 (c .level)) (lt-ltb (free .0) 32 (at .within .place)))
+      rw (o, free .1) (refl, and-intro _ _ (lt-ltb (q .level) 4 (c .level)) (lt-ltb (free .0) 32 (at .within .place)))
 
-  other-made : q does begin ≡ false → Made
-  unfolding performed granted served
-  other-made b =
-      let who = asker-known h q (eqb-false _ 0 b) unrefused in
-      let me : ltb (who .0) 32 ≡ true = lt-ltb _ 32 (seek-at (h .places) (q .level) (q .ticket) (who .0) (c .level) (who .1) .within .place) in
-      rw (b, who .1)
-      (elim (is (q does read)) [
-        | inl r ↦ rw r (refl, and-intro _ _ me (lt-ltb (q .item) 64 (item-below (or-left _ _ r))))
-        | inr nr ↦ rw nr
-            (elim (is (q does write)) [
-              | inl w ↦ rw w (refl, and-intro _ _ me (lt-ltb (q .item) 64 (item-below (or-right (q does read) _ w))))
-              | inr nw ↦ rw nw
-                  (elim (is (q does certify)) [
-                    | inl y ↦ rw y (refl, me)
-                    | inr ny ↦ rw ny
-                        (elim (is (q does commit)) [
-                          | inl k ↦ rw k (refl, me)
-                          | inr nk ↦ rw nk (elim (is (q does abort)) [ inl a ↦ rw a (refl, me) | inr na ↦ rw na (refl, refl) ])
-                        ])
-                  ])
-            ])
-      ])
+  -- the transaction that asks for anything else has a place
+  by-asker : q .operation ≢ begin → ((me : ℕ) → asker h q ≡ At me → ltb me 32 ≡ true → Made) → Made
+  by-asker o made =
+      let who = asker-known h q o unrefused in
+      made (who .0) (who .1) (lt-ltb _ 32 (seek-at (h .places) (q .level) (q .ticket) (who .0) (c .level) (who .1) .within .place))
 
   done-made : Made
-  done-made = elim (is (q does begin)) [ inl b ↦ begin-made b | inr b ↦ other-made b ]
+  unfolding performed granted served
+  done-made = elim (c .operation) [
+    | is-begin o ↦ begin-made o
+    | is-read o ↦ by-asker (not-begin o) (λ me at b. rw (o, at) (refl, and-intro _ _ b (lt-ltb (q .item) 64 (item-below (rw o)))))
+    | is-write o ↦ by-asker (not-begin o) (λ me at b. rw (o, at) (refl, and-intro _ _ b (lt-ltb (q .item) 64 (item-below (rw o)))))
+    | is-certify o ↦ by-asker (not-begin o) (λ me at b. rw (o, at) (refl, b))
+    | is-commit o ↦ by-asker (not-begin o) (λ me at b. rw (o, at) (refl, b))
+    | is-abort o ↦ by-asker (not-begin o) (λ me at b. rw (o, at) (refl, b))
+    | is-ask o ↦ by-asker (not-begin o) (λ me at b. rw (o, at) (refl, refl))
+  ]
 
 -- the ruling of a request and the effect of its change are the step of the rules
 pub ruled-steps : (h : House) (q : Request) → stepped h q ≡ outcome (effect h (ruled h q .change)) q (ruled h q .answer)

@@ -7,7 +7,6 @@ use mathlib.Core.List.{List, [], _∷_}
 use lib.Dec.{eqb, leb}
 use Rattle.house.specs.declared.Answer.the-variants.{Done, Ticket}
 use Rattle.house.specs.declared.Found.{Found}
-use Rattle.house.specs.declared.Found.the-variants.{At, Nobody}
 use Rattle.house.specs.declared.House.{House}
 use Rattle.house.specs.declared.Mark.the-variants.{Write, Certify}
 use Rattle.house.specs.declared.Request.{Request}
@@ -34,19 +33,15 @@ pub record Shown (h : House) (q : Request) (v : View) (lent : List ℕ) : Type 0
 unfoldable pub Judged : View → List ℕ → Request → Ruling → Type 0
 Judged v cells q r = (h : House) → Shown h q v cells → r ≡ ruled h q
 
--- a place found among the eight, as one of the 32: the eight start at b
-abbrev pub moved : ℕ → Found → Found
-moved b (At k) = At (b + k)
-moved b Nobody = Nobody
-
 -- the case of the transaction found at the k-th of the eight
 abbrev pub found : View → Request → ℕ → Case
 found v q k = record { request = q; count = v .count; row = v .row; pending = v .pending; me = q .level * 8 + k; seat = placeAt (v .eight) k }
 
 -- Operation by operation, past the checks 3, 4, 5 and 6
 
+-- a free place was found at the k-th of the eight, or none
 unfoldable pub beginRuled : Found → ℕ → ℕ → Ruling
-beginRuled free ticket l = ifFound free (λ me. cond (eqb ticket 0) (refusal 12) (grant (Ticket ticket) (Change.Begin l me))) (refusal 11)
+beginRuled free ticket l = ifFound free (λ k. cond (eqb ticket 0) (refusal 12) (grant (Ticket ticket) (Change.Begin l (l * 8 + k)))) (refusal 11)
 
 -- the ruling of the first check that applies, or what is granted where none does
 abbrev pub chain : List (ℕ × Bool) → Ruling → Ruling

@@ -1,27 +1,28 @@
+-- The first k bytes to be kept are at the front, and the rest of the bytes are as they were (`paste`): that is the invariant.
+-- With it go how many are to be kept, `left`, and that there are as many bytes as before.
 use Prim.Native.Nat.{_-_, _≤_}
-use native.Mathlib.Omega.{arith}
-use mathlib.Core.Path.{_≡_, refl, sym, _∙_}
-use lib.ListN.{length, drop, length-set, length-drop}
-use lib.Seq.{paste, paste-zero}
+use mathlib.Core.Path.{_≡_}
+use lib.ListN.{length, drop}
+use lib.Seq.{paste}
 use borrow.Author.Needs.{needs}
-use Rattle.dialogue.proofs.Keeping.{moved, kept-is}
+use Rattle.dialogue.proofs.Keeping.{moved, moved-all, left-past, none-kept}
 use Rattle.dialogue.proofs.keep.Statement.{statement}
 use Rattle.dialogue.proofs.keep.Tie as tie
 
 abbrev Inv-loop : tie.InvT-loop
-Inv-loop bytes₀ used left k₀ bytes k = (k ≤ left) × (length bytes ≡ length bytes₀) × (bytes ≡ paste bytes₀ 0 (drop used bytes₀) k)
+Inv-loop bytes₀ used left k₀ bytes k = (left ≡ length (drop used bytes₀)) × (k ≤ left) × (length bytes ≡ length bytes₀) × (bytes ≡ paste bytes₀ 0 (drop used bytes₀) k)
 
 abbrev μ-loop : tie.MeasureT-loop
 μ-loop bytes₀ used left k₀ bytes k = left - k
 
 returns : tie.Need-returns Inv-loop μ-loop
-returns c = let b = c .before .args .bytes .now in let used = c .before .args .used in let z : length (drop used b) ≡ 0 = length-drop used b ∙ omega arith in (sym z, rw z at (kept-is b used))
+returns c = search none-kept
 
 sub-left : tie.Need-sub-left Inv-loop μ-loop
 sub-left c = search needs
 
 loop-holds : tie.Need-loop-holds Inv-loop μ-loop
-loop-holds c = (omega arith, refl, paste-zero (c .before .args .bytes .now) 0 (drop (c .before .args .used) (c .before .args .bytes .now)))
+loop-holds c = search (needs, left-past)
 
 add-bytes : tie.Need-add-bytes Inv-loop μ-loop
 add-bytes c = search needs
@@ -39,13 +40,13 @@ loop-less : tie.Need-loop-less Inv-loop μ-loop
 loop-less c = search needs
 
 loop-again : tie.Need-loop-again Inv-loop μ-loop
-loop-again c = (omega arith, simp length-set (c .before .before .loop .inv .1), moved (c .before .before .before .before .args .bytes .now) (c .before .before .before .before .args .used) (c .before .before .loop .k) (omega arith) (c .before .before .loop .inv .2))
+loop-again c = search (needs, moved)
 
 same-length : tie.Need-same-length Inv-loop μ-loop
 same-length c = search needs
 
 returns-2 : tie.Need-returns-2 Inv-loop μ-loop
-returns-2 c = let b = c .before .before .before .args .bytes .now in let used = c .before .before .before .args .used in let e : c .before .loop .k ≡ length (drop used b) = omega (arith, length-drop used b) in (omega (arith, length-drop used b), c .before .loop .inv .2 ∙ rw e (kept-is b used))
+returns-2 c = search moved-all
 
 pub keep-spec : {M : Type 1} → statement M
 keep-spec =

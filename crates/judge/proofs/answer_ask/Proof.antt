@@ -1,7 +1,6 @@
-use native.Mathlib.Omega.{arith}
-use mathlib.Core.Path.{sym, _∙_}
 use borrow.Author.Needs.{needs}
-use Rattle.house.proofs.Searches.{find-below}
+use Rattle.house.proofs.Branches.{followed}
+use Rattle.judge.proofs.Laws.{signals, near, item-fits}
 use Rattle.house.specs.Cell.{firstSignalled}
 use Rattle.house.specs.Rules.{askAnswer}
 use Rattle.judge.proofs.answer_ask.Statement.{statement}
@@ -21,15 +20,15 @@ enum-told c = search needs
 
 returns : tie.Need-returns
 unfolding askAnswer
-returns c = simp (askAnswer, sym (c .before .before .first-signalled .ensures) ∙ c .enum-told .given .1, c .before .before .before .count-signalled .ensures)
+returns c = search (followed, signals)
 
-cast-t6 : tie.Need-cast-t6
+cast-lowest : tie.Need-cast-lowest
 unfolding firstSignalled
-cast-t6 c = omega (arith, find-below _ 0 64 _ (sym (c .before .before .before .first-signalled .ensures) ∙ c .before .i .given .1))
+cast-lowest c = search (near, item-fits)
 
 returns-2 : tie.Need-returns-2
 unfolding askAnswer
-returns-2 c = simp (askAnswer, sym (c .before .before .before .first-signalled .ensures) ∙ c .before .i .given .1, c .before .before .before .before .count-signalled .ensures)
+returns-2 c = search (followed, signals)
 
 pub answer-ask-spec : {M : Type 1} → statement M
 answer-ask-spec =
@@ -40,5 +39,5 @@ answer-ask-spec =
     enum-known-i
     enum-told
     returns
-    cast-t6
+    cast-lowest
     returns-2)

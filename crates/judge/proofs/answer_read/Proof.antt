@@ -1,5 +1,5 @@
-use mathlib.Core.Path.{sym, _∙_}
 use borrow.Author.Needs.{needs}
+use Rattle.house.proofs.Branches.{followed}
 use Rattle.house.specs.Rules.{readAnswer}
 use Rattle.judge.proofs.answer_read.Statement.{statement}
 use Rattle.judge.proofs.answer_read.Tie as tie
@@ -12,11 +12,11 @@ grow-requires c κs = search needs
 
 returns : tie.Need-returns
 unfolding readAnswer
-returns c = simp (readAnswer, sym (c .before .before .holds-mark .ensures) ∙ c .before .if1 .taken, c .grow .ensures)
+returns c = search followed
 
 returns-2 : tie.Need-returns-2
 unfolding readAnswer
-returns-2 c = simp (readAnswer, sym (c .before .holds-mark .ensures) ∙ c .if1 .left)
+returns-2 c = search followed
 
 pub answer-read-spec : {M : Type 1} → statement M
 answer-read-spec = tie.close (tie.spec holds-mark-requires grow-requires returns returns-2)

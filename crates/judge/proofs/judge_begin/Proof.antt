@@ -1,9 +1,7 @@
-use native.Mathlib.Omega.{arith}
-use mathlib.Core.Path.{sym, _∙_}
 use borrow.Author.Needs.{needs}
-use borrow.Author.Tests.{eq-eqb, ne-eqb}
-use Rattle.house.proofs.Searches.{find-below}
+use Rattle.house.proofs.Branches.{followed}
 use Rattle.ruling.specs.Judged.{beginRuled}
+use Rattle.judge.proofs.Laws.{near, place-fits}
 use Rattle.judge.proofs.judge_begin.Statement.{statement}
 use Rattle.judge.proofs.judge_begin.Tie as tie
 
@@ -21,27 +19,27 @@ refuse-requires c κs = search needs
 
 returns : tie.Need-returns
 unfolding beginRuled
-returns c = simp (beginRuled, sym (c .before .before .before .lowest-free .ensures) ∙ c .before .enum-told .given .1, c .refuse .ensures)
+returns c = search followed
 
 refuse-requires-2 : tie.Need-refuse-requires-2
 refuse-requires-2 c κs = search needs
 
 returns-2 : tie.Need-returns-2
 unfolding beginRuled
-returns-2 c = simp (beginRuled, sym (c .before .before .before .before .before .lowest-free .ensures) ∙ c .before .before .before .k .given .1, eq-eqb _ _ (c .before .if1 .taken), c .refuse2 .ensures)
+returns-2 c = search followed
 
-mul-t8 : tie.Need-mul-t8
-mul-t8 c = search needs
+mul-first : tie.Need-mul-first
+mul-first c = search needs
 
-add-t9 : tie.Need-add-t9
-add-t9 c = omega (arith, find-below _ 0 8 _ (sym (c .before .before .before .before .lowest-free .ensures) ∙ c .before .before .k .given .1))
+add-me : tie.Need-add-me
+add-me c = search (near, place-fits)
 
 allow-requires : tie.Need-allow-requires
 allow-requires c κs = search needs
 
 returns-3 : tie.Need-returns-3
 unfolding beginRuled
-returns-3 c = simp (beginRuled, sym (c .before .before .before .before .before .lowest-free .ensures) ∙ c .before .before .before .k .given .1, ne-eqb _ _ (c .before .if1 .left), c .allow .ensures)
+returns-3 c = search followed
 
 pub judge-begin-spec : {M : Type 1} → statement M
 judge-begin-spec =
@@ -54,7 +52,7 @@ judge-begin-spec =
     returns
     refuse-requires-2
     returns-2
-    mul-t8
-    add-t9
+    mul-first
+    add-me
     allow-requires
     returns-3)

@@ -1,5 +1,5 @@
-use mathlib.Core.Path.{sym, _∙_}
 use borrow.Author.Needs.{needs}
+use Rattle.house.proofs.Branches.{followed}
 use Rattle.ruling.specs.Judged.{certifyRuled}
 use Rattle.judge.proofs.judge_certify.Statement.{statement}
 use Rattle.judge.proofs.judge_certify.Tie as tie
@@ -12,7 +12,7 @@ refuse-requires c κs = search needs
 
 returns : tie.Need-returns
 unfolding certifyRuled
-returns c = simp (certifyRuled, sym (c .before .before .is-signalled .ensures) ∙ c .before .if1 .taken, c .refuse .ensures)
+returns c = search followed
 
 is-certified-requires : tie.Need-is-certified-requires
 is-certified-requires c κs = search needs
@@ -22,7 +22,7 @@ refuse-requires-2 c κs = search needs
 
 returns-2 : tie.Need-returns-2
 unfolding certifyRuled
-returns-2 c = simp (certifyRuled, sym (c .before .before .before .before .is-signalled .ensures) ∙ c .before .before .before .if1 .left, sym (c .before .before .is-certified .ensures) ∙ c .before .if2 .taken, c .refuse2 .ensures)
+returns-2 c = search followed
 
 must-wait-requires : tie.Need-must-wait-requires
 must-wait-requires c κs = search needs
@@ -32,14 +32,14 @@ refuse-requires-3 c κs = search needs
 
 returns-3 : tie.Need-returns-3
 unfolding certifyRuled
-returns-3 c = simp (certifyRuled, sym (c .before .before .before .before .before .before .is-signalled .ensures) ∙ c .before .before .before .before .before .if1 .left, sym (c .before .before .before .before .is-certified .ensures) ∙ c .before .before .before .if2 .left, sym (c .before .before .must-wait .ensures) ∙ c .before .if3 .taken, c .refuse3 .ensures)
+returns-3 c = search followed
 
 allow-requires : tie.Need-allow-requires
 allow-requires c κs = search needs
 
 returns-4 : tie.Need-returns-4
 unfolding certifyRuled
-returns-4 c = simp (certifyRuled, sym (c .before .before .before .before .before .before .is-signalled .ensures) ∙ c .before .before .before .before .before .if1 .left, sym (c .before .before .before .before .is-certified .ensures) ∙ c .before .before .before .if2 .left, sym (c .before .before .must-wait .ensures) ∙ c .before .if3 .left, c .allow .ensures)
+returns-4 c = search followed
 
 pub judge-certify-spec : {M : Type 1} → statement M
 judge-certify-spec =

@@ -1,5 +1,5 @@
-use mathlib.Core.Path.{sym, _∙_}
 use borrow.Author.Needs.{needs}
+use Rattle.house.proofs.Branches.{followed}
 use Rattle.ruling.specs.Judged.{commitRuled}
 use Rattle.judge.proofs.judge_commit.Statement.{statement}
 use Rattle.judge.proofs.judge_commit.Tie as tie
@@ -12,7 +12,7 @@ refuse-requires c κs = search needs
 
 returns : tie.Need-returns
 unfolding commitRuled
-returns c = simp (commitRuled, sym (c .before .before .is-signalled .ensures) ∙ c .before .if1 .taken, c .refuse .ensures)
+returns c = search followed
 
 is-active-requires : tie.Need-is-active-requires
 is-active-requires c κs = search needs
@@ -22,14 +22,14 @@ refuse-requires-2 c κs = search needs
 
 returns-2 : tie.Need-returns-2
 unfolding commitRuled
-returns-2 c = simp (commitRuled, sym (c .before .before .before .before .is-signalled .ensures) ∙ c .before .before .before .if1 .left, sym (c .before .before .is-active .ensures) ∙ c .before .if2 .taken, c .refuse2 .ensures)
+returns-2 c = search followed
 
 allow-requires : tie.Need-allow-requires
 allow-requires c κs = search needs
 
 returns-3 : tie.Need-returns-3
 unfolding commitRuled
-returns-3 c = simp (commitRuled, sym (c .before .before .before .before .is-signalled .ensures) ∙ c .before .before .before .if1 .left, sym (c .before .before .is-active .ensures) ∙ c .before .if2 .left, c .allow .ensures)
+returns-3 c = search followed
 
 pub judge-commit-spec : {M : Type 1} → statement M
 judge-commit-spec =

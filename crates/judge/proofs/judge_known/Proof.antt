@@ -1,5 +1,8 @@
+-- Each arm is `search followed`: it goes through the operations of `knownRuled` up to the number that the arm is of. An arm that is inserted
+-- brings its own needs and shifts nothing.
 use borrow.Author.Needs.{needs}
-use borrow.Author.Tests.{ne-eqb}
+use Rattle.house.proofs.Branches.{followed}
+use Rattle.judge.proofs.Laws.{granted}
 use Rattle.ruling.specs.Judged.{knownRuled}
 use Rattle.judge.proofs.judge_known.Statement.{statement}
 use Rattle.judge.proofs.judge_known.Tie as tie
@@ -27,27 +30,27 @@ allow-requires-2 c κs = search needs
 
 returns : tie.Need-returns
 unfolding knownRuled
-returns c = simp (knownRuled, c .before .match .keys1, c .judge-read .ensures)
+returns c = search followed depth 20
 
 returns-2 : tie.Need-returns-2
 unfolding knownRuled
-returns-2 c = simp (knownRuled, c .before .match .keys2, c .judge-write .ensures)
+returns-2 c = search followed depth 20
 
 returns-3 : tie.Need-returns-3
 unfolding knownRuled
-returns-3 c = simp (knownRuled, c .before .match .keys3, c .judge-certify .ensures)
+returns-3 c = search followed depth 20
 
 returns-4 : tie.Need-returns-4
 unfolding knownRuled
-returns-4 c = simp (knownRuled, c .before .match .keys4, c .judge-commit .ensures)
+returns-4 c = search followed depth 20
 
 returns-5 : tie.Need-returns-5
 unfolding knownRuled
-returns-5 c = simp (knownRuled, c .before .match .keys5, c .allow .ensures)
+returns-5 c = search followed depth 20
 
 returns-6 : tie.Need-returns-6
 unfolding knownRuled
-returns-6 c = simp (knownRuled, ne-eqb _ _ (c .before .before .match .rest .1), ne-eqb _ _ (c .before .before .match .rest .0 .1), ne-eqb _ _ (c .before .before .match .rest .0 .0 .1), ne-eqb _ _ (c .before .before .match .rest .0 .0 .0 .1), ne-eqb _ _ (c .before .before .match .rest .0 .0 .0 .0 .1), c .before .answer-ask .ensures, c .allow2 .ensures)
+returns-6 c = search (followed, granted) depth 20
 
 pub judge-known-spec : {M : Type 1} → statement M
 judge-known-spec =

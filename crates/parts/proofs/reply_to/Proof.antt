@@ -1,8 +1,17 @@
-use mathlib.Core.Path.{sym, ap, _∙_}
+-- In each arm `say` makes the reply to the answer that the match found. `search` finds the promise of `say` and what the match found;
+-- the law `found` puts them together.
+use mathlib.Core.Path.{_≡_}
 use borrow.Author.Needs.{needs}
+use Rattle.house.specs.declared.Answer.{Answer}
+use Rattle.house.specs.declared.Reply.{Reply}
+use Rattle.house.specs.declared.Request.{Request}
 use Rattle.house.specs.Rules.{replied}
 use Rattle.parts.proofs.reply_to.Statement.{statement}
 use Rattle.parts.proofs.reply_to.Tie as tie
+
+-- x is the answer that the match found
+found : (r : Reply) (q : Request) (answer x : Answer) → answer ≡ x → r ≡ replied q x → r ≡ replied q answer
+found r q answer x e p = rw e p
 
 enum-known-answer : tie.Need-enum-known-answer
 enum-known-answer c = search needs
@@ -35,19 +44,19 @@ say-requires-5 : tie.Need-say-requires-5
 say-requires-5 c κs = search needs
 
 returns : tie.Need-returns
-returns c = c .say .ensures ∙ sym (ap (replied _) (c .before .before .answer .given .1))
+returns c = search found
 
 returns-2 : tie.Need-returns-2
-returns-2 c = c .say2 .ensures ∙ sym (ap (replied _) (c .before .enum-told .given .1))
+returns-2 c = search found
 
 returns-3 : tie.Need-returns-3
-returns-3 c = c .say3 .ensures ∙ sym (ap (replied _) (c .before .before .answer2 .given .1))
+returns-3 c = search found
 
 returns-4 : tie.Need-returns-4
-returns-4 c = c .say4 .ensures ∙ sym (ap (replied _) (c .before .before .answer3 .given .1))
+returns-4 c = search found
 
 returns-5 : tie.Need-returns-5
-returns-5 c = c .say5 .ensures ∙ sym (ap (replied _) (c .before .before .answer4 .given .1))
+returns-5 c = search found
 
 pub reply-to-spec : {M : Type 1} → statement M
 reply-to-spec =

@@ -1,6 +1,16 @@
+-- In each arm the test is that of the change that the match found (`found`); `search` finds the match.
+-- The rest are the names that the arms bind.
+use mathlib.Core.Bool.{Bool}
+use mathlib.Core.Path.{_≡_}
 use borrow.Author.Needs.{needs}
+use Rattle.ruling.specs.declared.Change.{Change}
+use Rattle.ruling.specs.Ruling.{fits}
 use Rattle.perform.proofs.is_fit.Statement.{statement}
 use Rattle.perform.proofs.is_fit.Tie as tie
+
+-- the change fits if the one that the match found does
+found : (b : Bool) (change x : Change) → change ≡ x → b ≡ fits x → b ≡ fits change
+found b change x m p = rw m p
 
 enum-told : tie.Need-enum-told
 enum-told c = search needs
@@ -24,19 +34,19 @@ returns : tie.Need-returns
 returns c = search needs
 
 returns-2 : tie.Need-returns-2
-returns-2 c = rw (c .before .change .given .1)
+returns-2 c = search found
 
 returns-3 : tie.Need-returns-3
-returns-3 c = rw (c .before .change2 .given .1)
+returns-3 c = search found
 
 returns-4 : tie.Need-returns-4
-returns-4 c = rw (c .before .change3 .given .1)
+returns-4 c = search found
 
 returns-5 : tie.Need-returns-5
-returns-5 c = rw (c .before .change4 .given .1)
+returns-5 c = search found
 
 returns-6 : tie.Need-returns-6
-returns-6 c = rw (c .before .change5 .given .1)
+returns-6 c = search found
 
 pub is-fit-spec : {M : Type 1} → statement M
 is-fit-spec =

@@ -1,3 +1,5 @@
+-- The invariant is what `exchange` requires and promises: the buffer is not full, and there is room for the replies.
+-- The loop ends because it counts its rounds down.
 use Prim.Native.Nat.{_<_}
 use native.Mathlib.Omega.{arith}
 use mathlib.Core.Path.{_≡_, refl}

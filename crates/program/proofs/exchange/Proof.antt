@@ -1,28 +1,28 @@
+-- The read leaves the bytes that were kept, and others behind them, in a buffer as long as before; `hear` makes a round of it.
+-- What holds then is said where `hear` was called (`over`, `exchanged`) and taken from there; places are found by their types.
 use Prim.Native.Nat.{_<_, _≤_}
-use native.Mathlib.Omega.{arith}
 use mathlib.Core.Path.{sym}
 use lib.ListN.{length}
 use lib.Seq.{length-take-le}
 use borrow.Author.Needs.{needs}
 use Rattle.dialogue.specs.Rounds.{Room, Exchanged}
-use Rattle.dialogue.proofs.Rounds.{hearing, nothing-brought, bytes-heard}
+use Rattle.dialogue.proofs.Rounds.{nothing-brought, round-over, bytes-heard}
 use Rattle.program.proofs.exchange.Statement.{statement}
 use Rattle.program.proofs.exchange.Tie as tie
 
--- the buffer is not full, and the room is there still
-heard : (c : tie.After-hear) → (c .hear .result .have < length (c .hear .last .1 .0)) × Room (c .hear .last .1 .0) (c .hear .last .1 .1 .1 .1 .0) × (c .hear .result .written ≤ length (c .hear .last .1 .1 .1 .1 .0))
-heard c = hearing _ _ _ _ _ (omega arith, omega arith) _ _ _ (c .hear .ensures)
+-- where the function began
+unfoldable begun : tie.After-hear-arg2 → tie.Start
+begun c = search
+
+-- the buffer is not full, the room is there still, and so are the replies
+over : (c : tie.After-hear) → (c .hear .result .have < length (c .hear .last .1 .0)) × Room (c .hear .last .1 .0) (c .hear .last .1 .1 .1 .1 .0) × (c .hear .result .written ≤ length (c .hear .last .1 .1 .1 .1 .0))
+unfolding begun
+over c = let s = begun (c .before) in round-over _ _ _ _ _ _ _ _ (c .hear .ensures) (s .args .buffer .now) (s .pre .1) (search needs)
 
 -- what was handed to `hear` is what the read left behind the bytes that were kept
-abbrev start : tie.After-hear → tie.Start
-start c = c .before .before .before .before .before .before .before .before .before .before .before .before .before
-
-exchanged : (c : tie.After-hear) → Exchanged (start c .args .s) (start c .args .buffer .now) (start c .args .have) (start c .args .replies .now) (c .hear .result .dialogue) (c .hear .result .have) (c .hear .last .1 .0) (c .hear .last .1 .1 .1 .1 .0)
-exchanged c = bytes-heard _ _ _ _ (record { part = _; got = _ }) _ _ _ (c .hear .ensures) (omega arith) (search needs) (omega arith)
-
--- where the call was made, seen from the first place that looks back at it
-abbrev hearing-at : tie.After-dialogue → tie.After-hear
-hearing-at c = c .before .before .before .before .before
+exchanged : (c : tie.After-hear) → let a = begun (c .before) .args in Exchanged (a .s) (a .buffer .now) (a .have) (a .replies .now) (c .hear .result .dialogue) (c .hear .result .have) (c .hear .last .1 .0) (c .hear .last .1 .1 .1 .1 .0)
+unfolding begun
+exchanged c = bytes-heard _ _ _ _ _ _ _ _ _ (c .hear .ensures) (begun (c .before) .pre .0) (search needs) (search needs)
 
 sub-read : tie.Need-sub-read
 sub-read c = search needs
@@ -43,7 +43,7 @@ same-length : tie.Need-same-length
 same-length c = search needs
 
 returns : tie.Need-returns
-returns c = (search needs, (search needs, search needs), nothing-brought _ _ _ _ _ (search needs))
+returns c = (search needs, (search needs, search needs), search nothing-brought)
 
 sub-count : tie.Need-sub-count
 sub-count c = search needs
@@ -61,10 +61,10 @@ hear-requires : tie.Need-hear-requires
 hear-requires c κs = search needs
 
 slice-reshare-prefix-write-out : tie.Need-slice-reshare-prefix-write-out
-slice-reshare-prefix-write-out c = heard (hearing-at c) .2
+slice-reshare-prefix-write-out c = let at : tie.After-hear = search in over at .2
 
 slice-aggregate-write-out : tie.Need-slice-aggregate-write-out
-slice-aggregate-write-out c = sym (length-take-le _ _ (heard (hearing-at (c .before)) .2))
+slice-aggregate-write-out c = let at : tie.After-hear = search in sym (length-take-le _ _ (over at .2))
 
 write-out-requires : tie.Need-write-out-requires
 write-out-requires c κs = search needs
@@ -79,7 +79,8 @@ same-length-3 : tie.Need-same-length-3
 same-length-3 c = search needs
 
 returns-2 : tie.Need-returns-2
-returns-2 c = let at = hearing-at (c .before .before .before) in (heard at .0, heard at .1, exchanged at)
+unfolding begun
+returns-2 c = let at : tie.After-hear = search in (over at .0, over at .1, exchanged at)
 
 pub exchange-spec : {M : Type 1} → statement M
 exchange-spec =

@@ -1,3 +1,5 @@
+-- The invariant is that no more was written than there is, so that what is left is a part of the bytes.
+-- The loop ends because it counts its tries down.
 use Prim.Native.Nat.{_≤_}
 use lib.ListN.{length}
 use borrow.Author.Needs.{needs}

@@ -1,12 +1,11 @@
+-- Round i handles item i (`Sofar`). Its two ways, an item that is certified and one that is not, are laws of `Rounds`, whose premises
+-- `search` finds in the way that was taken.
 use Prim.Native.Nat.{_-_}
-use native.Mathlib.Omega.{arith}
 use mathlib.Core.Logic.{⊎-elim}
-use mathlib.Core.Path.{_≡_, refl, sym, _∙_}
-use lib.ListN.{length}
-use Rattle.house.proofs.Lists.{Sofar, sofar-none, sofar-set, sofar-skip, sofar-all}
+use Rattle.house.proofs.Lists.{Sofar, sofar-none}
 use Rattle.house.specs.House.{blank}
 use Rattle.house.specs.Rules.{committedItem}
-use Rattle.sweeps.proofs.Rounds.{committed-mine, uncommitted}
+use Rattle.sweeps.proofs.Rounds.{committed-one, passed-one, all-items}
 use borrow.Author.Needs.{needs}
 use Rattle.sweeps.proofs.commit_items.Statement.{statement}
 use Rattle.sweeps.proofs.commit_items.Tie as tie
@@ -57,15 +56,10 @@ loop-less : tie.Need-loop-less Inv-loop μ-loop
 loop-less c = search needs
 
 loop-again : tie.Need-loop-again Inv-loop μ-loop
-loop-again c = let s = c .before .before .before .loop .inv in
-    let e = sym (c .before .is-marked .ensures) in
-    ⊎-elim
-    (λ w. rw (w .4) (sofar-set _ _ _ _ _ _ s refl (w .3 .ensures ∙ committed-mine _ _ _ _ _ (e ∙ w .0 .taken)) (λ n h k ne. absurd (ne k))))
-    (λ w. rw (w .1) (sofar-skip _ _ _ _ s (λ n h k. rw k (uncommitted _ _ _ _ _ (e ∙ w .0 .left)))))
-    (c .if1 .came)
+loop-again c = ⊎-elim (λ w. search committed-one) (λ w. search passed-one) (c .if1 .came)
 
 returns : tie.Need-returns Inv-loop μ-loop
-returns c = sofar-all _ _ _ _ (c .before .loop .inv) (λ n h. let l : length (c .before .before .args .items) ≡ 64 = search needs in omega arith)
+returns c = search (needs, all-items)
 
 pub commit-items-spec : {M : Type 1} → statement M
 commit-items-spec =

@@ -1,9 +1,8 @@
-use Rattle.sweeps.proofs.Rounds.{dropped-mine}
+-- Round i handles the pending value of item i (`Sofar`), by the law `dropped-one` of `Rounds`. After 64 rounds all are handled, since
+-- there are 64.
+use Rattle.sweeps.proofs.Rounds.{dropped-one, all-items}
 use Rattle.house.specs.Rules.{droppedPending}
-use Rattle.house.proofs.Lists.{Sofar, sofar-none, sofar-set, sofar-all}
-use lib.ListN.{length}
-use mathlib.Core.Path.{_≡_, refl, _∙_}
-use native.Mathlib.Omega.{arith}
+use Rattle.house.proofs.Lists.{Sofar, sofar-none}
 use Prim.Native.Nat.{_-_}
 use borrow.Author.Needs.{needs}
 use Rattle.sweeps.proofs.drop_pending.Statement.{statement}
@@ -49,10 +48,10 @@ loop-less : tie.Need-loop-less Inv-loop μ-loop
 loop-less c = search needs
 
 loop-again : tie.Need-loop-again Inv-loop μ-loop
-loop-again c = sofar-set _ _ _ _ _ _ (c .before .before .before .loop .inv) refl (c .drop-value .ensures ∙ dropped-mine _ _ _ _) (λ n h k ne. absurd (ne k))
+loop-again c = search dropped-one
 
 returns : tie.Need-returns Inv-loop μ-loop
-returns c = sofar-all _ _ _ _ (c .before .loop .inv) (λ n h. let l : length (c .before .before .args .pending) ≡ 64 = search needs in omega arith)
+returns c = search (needs, all-items)
 
 pub drop-pending-spec : {M : Type 1} → statement M
 drop-pending-spec =

@@ -1,6 +1,5 @@
-use mathlib.Core.Path.{sym, _∙_, ap₂}
-use mathlib.Core.Bool.{_||_}
 use borrow.Author.Needs.{needs}
+use Rattle.house.proofs.Branches.{followed}
 use Rattle.sweeps.proofs.drop_value.Statement.{statement}
 use Rattle.sweeps.proofs.drop_value.Tie as tie
 
@@ -11,10 +10,10 @@ has-mark-requires-2 : tie.Need-has-mark-requires-2
 has-mark-requires-2 c κs = search needs
 
 returns : tie.Need-returns
-returns c = rw (sym (ap₂ (λ a b. a || b) (c .before .before .has-mark .ensures) (c .before .has-mark2 .ensures)) ∙ c .if1 .taken)
+returns c = search followed
 
 returns-2 : tie.Need-returns-2
-returns-2 c = rw (sym (ap₂ (λ a b. a || b) (c .before .before .has-mark .ensures) (c .before .has-mark2 .ensures)) ∙ c .if1 .left)
+returns-2 c = search followed
 
 pub drop-value-spec : {M : Type 1} → statement M
 drop-value-spec = tie.close (tie.spec has-mark-requires has-mark-requires-2 returns returns-2)

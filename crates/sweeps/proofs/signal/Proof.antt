@@ -1,7 +1,6 @@
-use mathlib.Core.Bool.{_&&_}
-use mathlib.Core.Path.{sym, _∙_, ap₂}
-use Rattle.house.specs.Rules.{signalledCell}
 use borrow.Author.Needs.{needs}
+use Rattle.house.proofs.Branches.{followed}
+use Rattle.house.specs.Rules.{signalledCell}
 use Rattle.sweeps.proofs.signal.Statement.{statement}
 use Rattle.sweeps.proofs.signal.Tie as tie
 
@@ -16,11 +15,11 @@ with-mark-requires c κs = search needs
 
 returns : tie.Need-returns
 unfolding signalledCell
-returns c = simp (signalledCell, sym (ap₂ (λ a b. a && b) (c .before .before .before .is-above .ensures) (c .before .before .has-mark .ensures)) ∙ c .before .if1 .taken, c .with-mark .ensures)
+returns c = search followed
 
 returns-2 : tie.Need-returns-2
 unfolding signalledCell
-returns-2 c = simp (signalledCell, sym (ap₂ (λ a b. a && b) (c .before .before .is-above .ensures) (c .before .has-mark .ensures)) ∙ c .if1 .left)
+returns-2 c = search followed
 
 pub signal-spec : {M : Type 1} → statement M
 signal-spec =

@@ -1,7 +1,22 @@
+-- Each field of the request is what `two` and `four` promise of the bytes that were read for it; `search` finds those promises, and the
+-- laws `of-halves` and `decoded` put them together.
+use Prim.Native.Nat.{ℕ, _+_, _*_}
+use mathlib.Core.Path.{_≡_, sym}
+use mathlib.Core.List.{List}
+use lib.ListN.{getD}
 use borrow.Author.Needs.{needs}
 use Rattle.wire.proofs.decode.Statement.{statement}
 use Rattle.wire.proofs.decode.Tie as tie
-use Rattle.wire.specs.Wire.{requestAt}
+use Rattle.wire.specs.Wire.{two, four, requestAt}
+
+-- a number of four bytes is made of its halves, and a request of what was read for its fields
+of-halves : (b : List ℕ) (o n low high : ℕ) → n ≡ low + high * 65536 → low ≡ two b o → high ≡ two b (o + 2) → n ≡ four b o
+of-halves b o n low high e p q = rw (sym p, sym q) e
+
+decoded : (b : List ℕ) (item ticket value : ℕ) → item ≡ two b 2 → ticket ≡ four b 4 → value ≡ four b 8
+    → record { operation = getD b 0 0; level = getD b 1 0; item = item; ticket = ticket; value = value } ≡ requestAt b 0
+unfolding requestAt
+decoded b item ticket value p q e = rw (p, q, e)
 
 array-read-t5 : tie.Need-array-read-t5
 array-read-t5 c = search needs
@@ -61,8 +76,7 @@ four-requires-2 : tie.Need-four-requires-2
 four-requires-2 c κs = search needs
 
 returns : tie.Need-returns
-unfolding requestAt
-returns c = simp (requestAt, c .before .before .before .before .before .before .two .ensures, c .before .before .before .before .before .two2 .ensures, c .before .before .before .before .two3 .ensures, c .before .before .before .four .ensures, c .before .before .two4 .ensures, c .before .two5 .ensures, c .four2 .ensures)
+returns c = search (decoded, of-halves)
 
 pub decode-spec : {M : Type 1} → statement M
 decode-spec =

@@ -1,3 +1,5 @@
+-- Byte by byte what `replyBytes` says: each is a field of the reply, or a quotient of one cut to a byte, and computing the sixteen shows that
+-- they are the same.
 use mathlib.Core.Path.{refl}
 use borrow.Author.Needs.{needs}
 use Rattle.wire.proofs.encode.Statement.{statement}

@@ -1,10 +1,12 @@
+-- After k rounds the first k bytes of the reply are pasted over those that were lent, and no other (`copied-in`);
+-- after sixteen it is the whole reply (`reply-copied`).
 use Prim.Native.Nat.{_-_, _≤_}
 use native.Mathlib.Omega.{arith}
-use mathlib.Core.Path.{_≡_, refl, sym, _∙_}
-use lib.ListN.{length, length-set}
+use mathlib.Core.Path.{_≡_, refl}
+use lib.ListN.{length}
 use lib.Seq.{paste, paste-zero}
 use borrow.Author.Needs.{needs}
-use Rattle.desk.proofs.Laws.{copied}
+use Rattle.desk.proofs.Laws.{copied-in, reply-copied}
 use Rattle.desk.proofs.bytes.put_reply.Statement.{statement}
 use Rattle.desk.proofs.bytes.put_reply.Tie as tie
 
@@ -18,7 +20,7 @@ encode-requires : tie.Need-encode-requires Inv-loop μ-loop
 encode-requires c κs = search needs
 
 loop-holds : tie.Need-loop-holds Inv-loop μ-loop
-loop-holds c = (omega arith, refl, paste-zero (c .before .before .args .b .now) (c .before .before .args .at) (c .encode .result))
+loop-holds c = (omega arith, refl, search paste-zero)
 
 array-read-b : tie.Need-array-read-b Inv-loop μ-loop
 array-read-b c = search needs
@@ -36,13 +38,13 @@ loop-less : tie.Need-loop-less Inv-loop μ-loop
 loop-less c = search needs
 
 loop-again : tie.Need-loop-again Inv-loop μ-loop
-loop-again c = (omega arith, simp length-set (c .before .loop .inv .1), copied (c .before .before .before .before .args .b .now) (c .before .before .before .before .args .at) (c .before .before .encode .result) (c .before .loop .k) (c .before .loop .inv .2) refl (omega arith) (let l : length (c .before .before .encode .result) ≡ 16 = search needs in omega arith))
+loop-again c = (omega arith, search needs, search copied-in)
 
 same-length : tie.Need-same-length Inv-loop μ-loop
 same-length c = search needs
 
 returns : tie.Need-returns Inv-loop μ-loop
-returns c = let e : c .before .loop .k ≡ 16 = omega arith in rw (sym (c .before .before .encode .ensures)) (c .before .loop .inv .2 ∙ rw e)
+returns c = search reply-copied
 
 pub put-reply-spec : {M : Type 1} → statement M
 put-reply-spec =

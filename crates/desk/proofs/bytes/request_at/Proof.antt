@@ -1,11 +1,10 @@
 use Prim.Native.Nat.{_-_, _≤_}
-use native.Mathlib.Nat.{zero-add}
 use native.Mathlib.Omega.{arith}
-use mathlib.Core.Path.{_≡_, sym, _∙_}
-use lib.ListN.{replicate, length-drop, drop}
-use lib.Seq.{getD-drop, paste, paste-zero}
+use mathlib.Core.Path.{_≡_, refl}
+use lib.ListN.{drop}
+use lib.Seq.{paste}
 use borrow.Author.Needs.{needs}
-use Rattle.desk.proofs.Laws.{copied, requestAt-copied}
+use Rattle.desk.proofs.Laws.{copied-out, request-copied}
 use Rattle.desk.proofs.bytes.request_at.Statement.{statement}
 use Rattle.desk.proofs.bytes.request_at.Tie as tie
 
@@ -16,7 +15,7 @@ abbrev μ-loop : tie.MeasureT-loop
 μ-loop b at x₀ k₀ x k = 12 - k
 
 loop-holds : tie.Need-loop-holds Inv-loop μ-loop
-loop-holds c = (omega arith, paste-zero (replicate 12 0) 0 (drop (c .before .args .at) (c .before .args .b .now)))
+loop-holds c = (omega arith, refl)
 
 add-x : tie.Need-add-x Inv-loop μ-loop
 add-x c = search needs
@@ -34,13 +33,13 @@ loop-less : tie.Need-loop-less Inv-loop μ-loop
 loop-less c = search needs
 
 loop-again : tie.Need-loop-again Inv-loop μ-loop
-loop-again c = let b = c .before .before .before .before .args .b .now in let at = c .before .before .before .before .args .at in let k = c .before .before .loop .k in (omega arith, rw (zero-add k) at (copied (replicate 12 0) 0 (drop at b) k (c .before .before .loop .inv .1) (sym (getD-drop at b k 0)) (omega arith) (simp length-drop (omega arith))))
+loop-again c = (omega arith, search copied-out)
 
 decode-requires : tie.Need-decode-requires Inv-loop μ-loop
 decode-requires c κs = search needs
 
 returns : tie.Need-returns Inv-loop μ-loop
-returns c = let e : c .before .before .loop .k ≡ 12 = omega arith in let b = c .before .before .before .before .args .b .now in let at = c .before .before .before .before .args .at in c .decode .ensures ∙ rw (c .before .before .loop .inv .1, e) (requestAt-copied b at)
+returns c = search request-copied
 
 pub request-at-spec : {M : Type 1} → statement M
 request-at-spec =

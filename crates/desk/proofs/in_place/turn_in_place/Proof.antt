@@ -1,30 +1,29 @@
-use Prim.Native.Nat.{ℕ, _+_, _-_, _*_, _%_, _<_, _≤_, min}
-use native.Mathlib.Nat.{mod-eq-of-lt}
+-- The laws of a turn (`Requests`) say what a round does once its change is made (`more`); each arm is a law of its change (`Changes`). What
+-- they go by, `search` finds; a place far back is found by its type.
+use Prim.Native.Nat.{ℕ, _+_, _-_, _%_, _<_, _≤_}
 use native.Mathlib.Omega.{arith}
-use mathlib.Core.Bool.{true, _&&_, cond}
+use mathlib.Core.Bool.{true}
 use mathlib.Core.List.{List}
 use mathlib.Core.Logic.{⊎-elim}
-use mathlib.Core.Path.{_≡_, refl, sym, ap, ap₂, _∙_}
+use mathlib.Core.Path.{_≡_, refl}
 use lib.ListN.{length}
 use borrow.Author.Needs.{needs}
-use borrow.Author.Tests.{ltb-true}
-use Rattle.house.proofs.Tests.{both-below, cond-yes, cond-no}
 use Rattle.house.proofs.Lists.{length-mapped}
-use Rattle.house.specs.House.{Sizes, withItems, withPending, withPlace, withCells}
-use Rattle.house.specs.Rules.{outcome, begun, readBy, writtenBy, certifiedBy}
+use Rattle.house.specs.House.{Sizes, vacant, withItems, withPending, withPlace, withCells}
+use Rattle.house.specs.Rules.{clearedCell}
 use Rattle.house.specs.Run.{finally, replies}
 use Rattle.house.specs.declared.House.{House}
-use Rattle.house.specs.declared.Request.{Request}
-use Rattle.ruling.proofs.Judged.{shows}
-use Rattle.ruling.proofs.Steps.{ruled-steps, ruled-fits, stepped-sizes}
-use Rattle.ruling.specs.Judged.{Judged}
-use Rattle.ruling.specs.Ruling.{fits, effect, ruled}
+use Rattle.house.specs.declared.Place.{Place}
+use Rattle.ruling.proofs.Steps.{stepped-sizes}
+use Rattle.ruling.specs.Ruling.{fits, effect}
 use Rattle.ruling.specs.declared.Change.{Change}
-use Rattle.sweeps.proofs.Whole.{swept-whole, committed, dropped, ended-house}
-use Rattle.desk.proofs.Laws.{next, housed-next, written-next, finally-keeps}
+use Rattle.sweeps.specs.Sweep.{swept}
+use Rattle.sweeps.proofs.Changes.{begin-there, write-there, certify-there, end-there, kept-is, begun-is, read-is, written-is, certified-is, ended-is, went, passed}
+use Rattle.desk.proofs.Laws.{turned-at, answered-at, finally-keeps}
+use Rattle.desk.proofs.Requests.{fit, housed-made, written-made}
 use Rattle.desk.proofs.in_place.turn_in_place.Statement.{statement}
 use Rattle.desk.proofs.in_place.turn_in_place.Tie as tie
-use Rattle.desk.specs.Turn.{requests, wired, share, housed, written, turned, answered}
+use Rattle.desk.specs.Turn.{requests, wired, housed, written}
 
 abbrev Inv-loop : tie.InvT-loop
 Inv-loop requests replies₀ most count h₀ n₀ replies h n = (n ≤ count) × (length replies ≡ length replies₀) × (h ≡ housed n h₀ requests) × (replies ≡ written n h₀ requests replies₀)
@@ -32,120 +31,76 @@ Inv-loop requests replies₀ most count h₀ n₀ replies h n = (n ≤ count) ×
 abbrev μ-loop : tie.MeasureT-loop
 μ-loop requests replies₀ most count h₀ n₀ replies h n = count - n
 
--- the n-th reply has its place
-roomy : (c : tie.In-loop Inv-loop μ-loop) → (c .before .loop .n * 16 + 16 ≤ length (c .before .loop .replies)) × (c .before .loop .n * 16 < 18446744073709551616)
-roomy c = (omega arith, omega arith)
-
--- a round, seen from where the eight places were read, and from the ruling: its request, where it begins, and what was lent to the
--- turn
-abbrev asked : tie.After-p0 Inv-loop μ-loop → tie.After-request-at Inv-loop μ-loop
-asked c = c .before .before .before .before .before .before
-
-abbrev looked : tie.After-judge Inv-loop μ-loop → tie.After-p0 Inv-loop μ-loop
-looked c = c .before .before .before .before .before .before .before .before .before .before
-
-abbrev request : tie.After-judge Inv-loop μ-loop → Request
-request c = asked (looked c) .request-at .result
-
-abbrev entered : tie.After-judge Inv-loop μ-loop → tie.In-loop Inv-loop μ-loop
-entered c = asked (looked c) .before
-
-abbrev started : tie.In-loop Inv-loop μ-loop → tie.Start Inv-loop μ-loop
-started c = c .before .before .before .before .before .before
-
-abbrev house : tie.After-judge Inv-loop μ-loop → House
-house c = started (entered c) .args .h
-
-abbrev input : tie.After-judge Inv-loop μ-loop → List ℕ
-input c = started (entered c) .args .requests .now
-
-abbrev room : tie.After-judge Inv-loop μ-loop → List ℕ
-room c = started (entered c) .args .replies .now
-
--- the judge was shown the house
-ruling : (c : tie.After-judge Inv-loop μ-loop) → ruled (entered c .before .loop .h) (request c) ≡ c .judge .result
-unfolding Judged
-ruling c = let h = entered c .before .loop .h in sym (c .judge .ensures h (shows h (request c)))
-
-fit : (c : tie.After-judge Inv-loop μ-loop) → fits (c .judge .result .change) ≡ true
-fit c = rw (ruling c) at (ruled-fits (entered c .before .loop .h) (request c))
-
--- so what it ruled is the step of the n-th request
-stepping : (c : tie.After-judge Inv-loop μ-loop) → next (house c) (input c) (room c) (entered c .before .loop .n) ≡ outcome (effect (entered c .before .loop .h) (c .judge .result .change)) (request c) (c .judge .result .answer)
-stepping c = rw (sym (entered c .before .loop .inv .2), sym (asked (looked c) .request-at .ensures), ruled-steps, ruling c)
-
-housing : (c : tie.After-judge Inv-loop μ-loop) → effect (entered c .before .loop .h) (c .judge .result .change) ≡ housed (entered c .before .loop .n + 1) (house c) (input c)
-housing c = sym (housed-next (house c) (input c) (room c) (entered c .before .loop .n) ∙ ap (λ o. o .house) (stepping c))
-
--- past the reply: one more is answered, the bytes are as many, and hold its reply
-
+-- A round, seen from where its reply is written: where the judge has ruled, where the request was read, where the round began, and what
+-- was lent to the turn. Each place has a type of its own, by which it is found, whatever stands between.
 abbrev judged : tie.After-slice-known2 Inv-loop μ-loop → tie.After-judge Inv-loop μ-loop
-judged c = c .before .before .before .before .before
+judged c = search
 
-more : (c : tie.After-slice-known2 Inv-loop μ-loop) → entered (judged c) .before .loop .n + 1 ≤ entered (judged c) .before .before .least2 .result
-more c = omega (arith, entered (judged c) .loop-test .taken)
+abbrev asked : tie.After-judge Inv-loop μ-loop → tie.After-request-at Inv-loop μ-loop
+asked c = search
 
-less : (c : tie.After-slice-known2 Inv-loop μ-loop) → entered (judged c) .before .before .least2 .result - (entered (judged c) .before .loop .n + 1) < entered (judged c) .before .before .least2 .result - entered (judged c) .before .loop .n
-less c = omega (arith, more c)
+abbrev round : tie.After-slice-known2 Inv-loop μ-loop → tie.At-loop Inv-loop μ-loop
+round c = let a = asked (judged c) in search
 
-long-as-lent : (c : tie.After-slice-known2 Inv-loop μ-loop) → length (c .before .before .put-reply .last .0) ≡ length (room (judged c))
-long-as-lent c = c .before .before .put-reply .kept .0 ∙ entered (judged c) .before .loop .inv .1
+abbrev lent : tie.After-slice-known2 Inv-loop μ-loop → tie.Start Inv-loop μ-loop
+lent c = let r = round c in search
 
-wrote : (c : tie.After-slice-known2 Inv-loop μ-loop) → c .before .before .put-reply .last .0 ≡ written (entered (judged c) .before .loop .n + 1) (house (judged c)) (input (judged c)) (room (judged c))
-wrote c = let j = judged c in c .before .before .put-reply .ensures ∙ written-next (house j) (input j) (room j) (entered j .before .loop .n) (entered j .before .loop .inv .3) (c .before .before .before .reply-to .ensures ∙ sym (ap (λ o. o .reply) (stepping j)))
+abbrev held : tie.After-slice-known2 Inv-loop μ-loop → House
+held c = round c .loop .h
 
-made : (c : tie.After-slice-known2 Inv-loop μ-loop) (k : Change) → judged c .judge .result .change ≡ k → effect (entered (judged c) .before .loop .h) k ≡ housed (entered (judged c) .before .loop .n + 1) (house (judged c)) (input (judged c))
-made c k e = ap (effect (entered (judged c) .before .loop .h)) (sym e) ∙ housing (judged c)
+abbrev ruled : tie.After-slice-known2 Inv-loop μ-loop → Change
+ruled c = judged c .judge .result .change
+
+fitting : (c : tie.After-slice-known2 Inv-loop μ-loop) → fits (ruled c) ≡ true
+fitting c = let r = round c in search fit
+
+-- the lists are as long as the arrays, from round to round
+came-sized : (c : tie.Start Inv-loop μ-loop) → Sizes (c .args .h)
+came-sized c = record { items = search (needs, length-mapped); pending = search needs; places = search (needs, length-mapped); next = search needs; cells = search needs }
+
+sizes : (c : tie.After-slice-known2 Inv-loop μ-loop) → Sizes (held c)
+sizes c = rw (round c .loop .inv .2) (finally-keeps Sizes stepped-sizes _ (came-sized (lent c)) _)
+
+-- once the change is made, one request more is answered
+more : (c : tie.After-slice-known2 Inv-loop μ-loop) (g : House) → (fits (ruled c) ≡ true → Sizes (held c) → g ≡ effect (held c) (ruled c)) →
+    let l = lent c .args in Inv-loop (l .requests .now) (l .replies .now) (l .most) (round c .before .least2 .result) (l .h) 0 (c .before .before .put-reply .last .0) g (round c .loop .n + 1)
+more c g made = let a = asked (judged c) in let e = made (fitting c) (sizes c) in (omega arith, search needs, search housed-made, search written-made)
+
+less : (c : tie.After-slice-known2 Inv-loop μ-loop) → round c .before .least2 .result - (round c .loop .n + 1) < round c .before .least2 .result - round c .loop .n
+less c = let a = asked (judged c) in omega arith
 
 -- what the change names is there
 
 begins : (c : tie.After-change Inv-loop μ-loop) → (c .change .given .0 .0 < 4) × (c .change .given .0 .1 .0 < 32)
-begins c = both-below _ _ _ _ (sym (ap fits (c .change .given .1)) ∙ fit (judged (c .before .before)))
-
-read-there : (c : tie.After-change2 Inv-loop μ-loop) → (c .change2 .given .0 .0 < 32) × (c .change2 .given .0 .1 .0 < 64)
-read-there c = both-below _ _ _ _ (sym (ap fits (c .change2 .given .1)) ∙ fit (judged (c .before .before)))
+begins c = begin-there _ (fitting (search)) _ _ (c .change .given .1)
 
 writes : (c : tie.After-change3 Inv-loop μ-loop) → (c .change3 .given .0 .0 < 32) × (c .change3 .given .0 .1 .0 < 64)
-writes c = both-below _ _ _ _ (sym (ap fits (c .change3 .given .1)) ∙ fit (judged (c .before .before)))
+writes c = write-there _ (fitting (search)) _ _ _ (c .change3 .given .1)
 
 certifies : (c : tie.After-change4 Inv-loop μ-loop) → c .change4 .given .0 .0 < 32
-certifies c = ltb-true _ _ (sym (ap fits (c .change4 .given .1)) ∙ fit (judged (c .before .before)))
+certifies c = certify-there _ (fitting (search)) _ (c .change4 .given .1)
 
 ends : (c : tie.After-change5 Inv-loop μ-loop) → c .change5 .given .0 .0 < 32
-ends c = ltb-true _ _ (sym (ap fits (c .change5 .given .1)) ∙ fit (judged (c .before .before)))
+ends c = end-there _ (fitting (search)) _ _ (c .change5 .given .1)
 
--- the lists are as long as the arrays, from round to round
-lent : (c : tie.Start Inv-loop μ-loop) → Sizes (c .args .h)
-lent c = record { items = search (needs, length-mapped); pending = search needs; places = search (needs, length-mapped); next = search needs; cells = search needs }
-
-abbrev held : tie.After-slice-known2 Inv-loop μ-loop → House
-held c = entered (judged c) .before .loop .h
-
-sizes : (c : tie.After-slice-known2 Inv-loop μ-loop) → Sizes (held c)
-sizes c = rw (entered (judged c) .before .loop .inv .2) (finally-keeps Sizes stepped-sizes _ (lent (started (entered (judged c)))) _)
-
--- AN END, seen from where its two tests have met
+-- an end, once its two tests have met: with the cells cleared and the place left it is the effect
 
 abbrev ending : tie.Joined2 Inv-loop μ-loop → tie.After-change5 Inv-loop μ-loop
-ending c = c .before .before .before .before .before .before
+ending c = search
 
-items : (c : tie.Joined1 Inv-loop μ-loop) → let e = c .before .before .before .before .before in let h = held (e .before .before) in
-    c .if1 .h ≡ withItems h (cond (c .before .has-claimed .result && e .change5 .given .0 .1 .0) (committed h (e .change5 .given .0 .0 % 32)) (h .items))
-items c =
-    let h = held (c .before .before .before .before .before .before .before) in
-    ⊎-elim
-    (λ w. w .6 ∙ ap (withItems h) (w .5 .ensures ∙ sym (cond-yes _ _ (w .0 .taken))))
-    (λ w. w .1 ∙ ap (withItems h) (sym (cond-no _ _ (w .0 .left))))
-    (c .if1 .came)
+abbrev whose : tie.Joined2 Inv-loop μ-loop → tie.After-slice-known2 Inv-loop μ-loop
+whose c = search
 
-pending : (c : tie.Joined2 Inv-loop μ-loop) → let g = c .before .if1 .h in
-    c .if2 .h ≡ withPending g (cond (c .before .before .has-claimed .result) (dropped g (ending c .change5 .given .0 .0 % 32)) (g .pending))
-pending c =
-    let g = c .before .if1 .h in
-    ⊎-elim
-    (λ w. w .5 ∙ ap (withPending g) (w .4 .ensures ∙ sym (cond-yes _ _ (w .0 .taken))))
-    (λ w. w .1 ∙ ap (withPending g) (sym (cond-no _ _ (w .0 .left))))
-    (c .if2 .came)
+ended : (c : tie.Joined2 Inv-loop μ-loop) → let me = ending c .change5 .given .0 .0 in let h = c .if2 .h in
+    (cells : List ℕ) → cells ≡ swept (clearedCell (me % 32)) (h .cells) → (place : Place) → place ≡ vacant → withPlace (withCells h cells) me place ≡ effect (held (whose c)) (ruled (whose c))
+ended c =
+    let k : tie.After-has-claimed Inv-loop μ-loop = search in
+    let i : tie.Joined1 Inv-loop μ-loop = search in
+    let items = withItems (held (whose c)) in
+    let pending = withPending (i .if1 .h) in
+    ended-is _ (fitting (whose c)) _ (sizes (whose c)) _ _ (ending c .change5 .given .1) _ (k .has-claimed .ensures)
+    (i .if1 .h) (⊎-elim (λ w. search (went items)) (λ w. search (passed items)) (i .if1 .came))
+    (c .if2 .h) (⊎-elim (λ w. search (went pending)) (λ w. search (passed pending)) (c .if2 .came))
 
 least-requires : tie.Need-least-requires Inv-loop μ-loop
 least-requires c κs = search needs
@@ -263,59 +218,58 @@ judge-requires : tie.Need-judge-requires Inv-loop μ-loop
 judge-requires c κs = search needs
 
 mul-put-reply : tie.Need-mul-put-reply Inv-loop μ-loop
-mul-put-reply c = omega (arith, roomy (entered (c .before)))
+mul-put-reply c = let a = asked (c .before) in search needs
 
 reply-to-requires : tie.Need-reply-to-requires Inv-loop μ-loop
 reply-to-requires c κs = search needs
 
 put-reply-requires : tie.Need-put-reply-requires Inv-loop μ-loop
-put-reply-requires c κs = roomy (entered (c .before .before)) .0
+put-reply-requires c κs = let a = asked (c .before .before) in search needs
 
 add-n : tie.Need-add-n Inv-loop μ-loop
-add-n c = omega (arith, roomy (entered (judged c)))
+add-n c = let a = asked (judged c) in search needs
 
 enum-told : tie.Need-enum-told Inv-loop μ-loop
 enum-told c = search needs
 
 loop-less : tie.Need-loop-less Inv-loop μ-loop
-loop-less c = less (c .before .before)
+loop-less c = less (search)
 
 loop-again : tie.Need-loop-again Inv-loop μ-loop
-loop-again c = let s = c .before .before in (more s, long-as-lent s, rw (← made s _ (c .enum-told .given .1)), wrote s)
+loop-again c = more (search) _ (search kept-is)
 
 enum-known-change : tie.Need-enum-known-change Inv-loop μ-loop
 enum-known-change c = search needs
 
 mul-t : tie.Need-mul-t Inv-loop μ-loop
-mul-t c = let k = begins (c .before) in omega arith
+mul-t c = omega (arith, begins (search))
 
 element-copy-out-t : tie.Need-element-copy-out-t Inv-loop μ-loop
-element-copy-out-t c = let k = begins (c .before) in omega arith
+element-copy-out-t c = omega (arith, begins (search))
 
 active-requires : tie.Need-active-requires Inv-loop μ-loop
 active-requires c κs = search needs
 
-mul-t85 : tie.Need-mul-t85 Inv-loop μ-loop
-mul-t85 c = let k = begins (c .before .before .before) in omega arith
+mul-taken : tie.Need-mul-taken Inv-loop μ-loop
+mul-taken c = omega (arith, begins (search))
 
-element-set-from-h : tie.Need-element-set-from-h Inv-loop μ-loop
-element-set-from-h c = let k = begins (c .before .before .before) in omega arith
+element-set-from-taken : tie.Need-element-set-from-taken Inv-loop μ-loop
+element-set-from-taken c = omega (arith, begins (search))
 
 next-ticket-requires : tie.Need-next-ticket-requires Inv-loop μ-loop
 next-ticket-requires c κs = search needs
 
 mul-h : tie.Need-mul-h Inv-loop μ-loop
-mul-h c = let k = begins (c .before .before .before .before) in omega arith
+mul-h c = omega (arith, begins (search))
 
 element-write-h : tie.Need-element-write-h Inv-loop μ-loop
-element-write-h c = let k = begins (c .before .before .before .before) in omega arith
+element-write-h c = omega (arith, begins (search))
 
 loop-less-2 : tie.Need-loop-less-2 Inv-loop μ-loop
-loop-less-2 c = less (c .before .before .before .before .before .before)
+loop-less-2 c = less (search)
 
 loop-again-2 : tie.Need-loop-again-2 Inv-loop μ-loop
-unfolding begun
-loop-again-2 c = let s = c .before .before .before .before .before .before in (more s, long-as-lent s, rw (← made s _ (c .before .before .before .before .change .given .1), c .before .active .ensures, c .next-ticket .ensures), wrote s)
+loop-again-2 c = more (search) _ (search begun-is)
 
 enum-known-change-2 : tie.Need-enum-known-change-2 Inv-loop μ-loop
 enum-known-change-2 c = search needs
@@ -324,11 +278,10 @@ mark-cell-requires : tie.Need-mark-cell-requires Inv-loop μ-loop
 mark-cell-requires c κs = search needs
 
 loop-less-3 : tie.Need-loop-less-3 Inv-loop μ-loop
-loop-less-3 c = less (c .before .before .before .before .before)
+loop-less-3 c = less (search)
 
 loop-again-3 : tie.Need-loop-again-3 Inv-loop μ-loop
-unfolding readBy
-loop-again-3 c = let s = c .before .before .before .before .before in (more s, long-as-lent s, rw (← made s _ (c .before .before .before .change2 .given .1), c .mark-cell .ensures, mod-eq-of-lt (read-there (c .before .before .before) .0), mod-eq-of-lt (read-there (c .before .before .before) .1)), wrote s)
+loop-again-3 c = more (search) _ (search read-is)
 
 enum-known-change-3 : tie.Need-enum-known-change-3 Inv-loop μ-loop
 enum-known-change-3 c = search needs
@@ -337,17 +290,16 @@ mark-cell-requires-2 : tie.Need-mark-cell-requires-2 Inv-loop μ-loop
 mark-cell-requires-2 c κs = search needs
 
 mul-h-2 : tie.Need-mul-h-2 Inv-loop μ-loop
-mul-h-2 c = let k = writes (c .before .before .before) in omega arith
+mul-h-2 c = omega (arith, writes (search))
 
 element-write-h-2 : tie.Need-element-write-h-2 Inv-loop μ-loop
-element-write-h-2 c = let k = writes (c .before .before .before) in omega arith
+element-write-h-2 c = omega (arith, writes (search))
 
 loop-less-4 : tie.Need-loop-less-4 Inv-loop μ-loop
-loop-less-4 c = less (c .before .before .before .before .before)
+loop-less-4 c = less (search)
 
 loop-again-4 : tie.Need-loop-again-4 Inv-loop μ-loop
-unfolding writtenBy
-loop-again-4 c = let s = c .before .before .before .before .before in (more s, long-as-lent s, rw (← made s _ (c .before .before .before .change3 .given .1), c .mark-cell2 .ensures, mod-eq-of-lt (writes (c .before .before .before) .0), mod-eq-of-lt (writes (c .before .before .before) .1)), wrote s)
+loop-again-4 c = more (search) _ (search written-is)
 
 enum-known-change-4 : tie.Need-enum-known-change-4 Inv-loop μ-loop
 enum-known-change-4 c = search needs
@@ -356,26 +308,25 @@ certify-cells-requires : tie.Need-certify-cells-requires Inv-loop μ-loop
 certify-cells-requires c κs = search needs
 
 mul-place : tie.Need-mul-place Inv-loop μ-loop
-mul-place c = omega (arith, certifies (c .before .before .before))
+mul-place c = omega (arith, certifies (search))
 
 element-copy-out-place : tie.Need-element-copy-out-place Inv-loop μ-loop
-element-copy-out-place c = omega (arith, certifies (c .before .before .before))
+element-copy-out-place c = omega (arith, certifies (search))
 
 certified-requires : tie.Need-certified-requires Inv-loop μ-loop
 certified-requires c κs = search needs
 
-mul-t105 : tie.Need-mul-t105 Inv-loop μ-loop
-mul-t105 c = omega (arith, certifies (c .before .before .before .before .before))
+mul-seat : tie.Need-mul-seat Inv-loop μ-loop
+mul-seat c = omega (arith, certifies (search))
 
-element-set-from-h-2 : tie.Need-element-set-from-h-2 Inv-loop μ-loop
-element-set-from-h-2 c = omega (arith, certifies (c .before .before .before .before .before))
+element-set-from-seat : tie.Need-element-set-from-seat Inv-loop μ-loop
+element-set-from-seat c = omega (arith, certifies (search))
 
 loop-less-5 : tie.Need-loop-less-5 Inv-loop μ-loop
-loop-less-5 c = less (c .before .before .before .before .before .before .before)
+loop-less-5 c = less (search)
 
 loop-again-5 : tie.Need-loop-again-5 Inv-loop μ-loop
-unfolding certifiedBy
-loop-again-5 c = let s = c .before .before .before .before .before .before .before in (more s, long-as-lent s, rw (← made s _ (c .before .before .before .before .before .change4 .given .1), c .before .before .certify-cells .ensures, mod-eq-of-lt (certifies (c .before .before .before .before .before)), swept-whole _ _ (sizes s .cells), c .certified .ensures), wrote s)
+loop-again-5 c = more (search) _ (search certified-is)
 
 enum-known-change-5 : tie.Need-enum-known-change-5 Inv-loop μ-loop
 enum-known-change-5 c = search needs
@@ -395,35 +346,23 @@ clear-cells-requires c κs = search needs
 left-free-requires : tie.Need-left-free-requires Inv-loop μ-loop
 left-free-requires c κs = search needs
 
-mul-t119 : tie.Need-mul-t119 Inv-loop μ-loop
-mul-t119 c = omega (arith, ends (ending (c .before .before .before)))
+mul-left : tie.Need-mul-left Inv-loop μ-loop
+mul-left c = omega (arith, ends (search))
 
-element-set-from-h-3 : tie.Need-element-set-from-h-3 Inv-loop μ-loop
-element-set-from-h-3 c = omega (arith, ends (ending (c .before .before .before)))
+element-set-from-left : tie.Need-element-set-from-left Inv-loop μ-loop
+element-set-from-left c = omega (arith, ends (search))
 
 loop-less-6 : tie.Need-loop-less-6 Inv-loop μ-loop
-loop-less-6 c = less (ending (c .before .before .before) .before .before)
+loop-less-6 c = less (search)
 
 loop-again-6 : tie.Need-loop-again-6 Inv-loop μ-loop
-loop-again-6 c = let j = c .before .before .before in
-    let e = ending j in
-    let s = e .before .before in (
-      more s,
-      long-as-lent s,
-      ap₂ (λ cells place. withPlace (withCells (j .if2 .h) cells) (e .change5 .given .0 .0) place) (c .before .clear-cells .ensures) (c .left-free .ensures)
-          ∙ ended-house (held s) _ _ (sizes s) _ _ (mod-eq-of-lt (ends e)) (e .change5 .given .0 .1 .0) _ (j .before .before .has-claimed .ensures) (items (j .before)) (pending j)
-          ∙ made s _ (e .change5 .given .1),
-      wrote s,
-    )
+loop-again-6 c = more (search) _ (search (ended (search)))
 
 same-length : tie.Need-same-length Inv-loop μ-loop
 same-length c = search needs
 
 returns : tie.Need-returns Inv-loop μ-loop
-unfolding turned answered share
-returns c = let e : c .before .loop .n ≡ c .before .before .least2 .result = omega arith in
-    let s = c .before .before .least2 .ensures ∙ ap (min (c .before .before .before .before .before .before .args .most)) (c .before .before .before .least .ensures) in
-    (rw (sym s, c .before .loop .inv .2, e), rw (sym s, c .before .loop .inv .3, e))
+returns c = (search turned-at, search answered-at)
 
 pub turn-in-place-spec : {M : Type 1} → statement M
 turn-in-place-spec =
@@ -480,8 +419,8 @@ turn-in-place-spec =
     mul-t
     element-copy-out-t
     active-requires
-    mul-t85
-    element-set-from-h
+    mul-taken
+    element-set-from-taken
     next-ticket-requires
     mul-h
     element-write-h
@@ -502,8 +441,8 @@ turn-in-place-spec =
     mul-place
     element-copy-out-place
     certified-requires
-    mul-t105
-    element-set-from-h-2
+    mul-seat
+    element-set-from-seat
     loop-less-5
     loop-again-5
     enum-known-change-5
@@ -512,8 +451,8 @@ turn-in-place-spec =
     drop-pending-requires
     clear-cells-requires
     left-free-requires
-    mul-t119
-    element-set-from-h-3
+    mul-left
+    element-set-from-left
     loop-less-6
     loop-again-6
     same-length

@@ -1,40 +1,21 @@
-use Prim.Native.Nat.{ℕ, _+_, _-_, _*_, _<_, _≤_, min}
+-- After n rounds the house is `housed n` and the bytes are `written n`; a round is one request more, and at the count the turn has ended
+-- (`Laws`). A place is found by its type, whatever stands between.
+use Prim.Native.Nat.{_-_, _≤_}
 use native.Mathlib.Omega.{arith}
-use mathlib.Core.List.{List}
-use mathlib.Core.Path.{_≡_, refl, sym, ap, ap₂, _∙_}
+use mathlib.Core.Path.{_≡_, refl}
 use lib.ListN.{length}
 use borrow.Author.Needs.{needs}
-use Rattle.house.specs.Rules.{stepped}
 use Rattle.house.specs.Run.{finally, replies}
-use Rattle.house.specs.declared.House.{House}
-use Rattle.desk.proofs.Laws.{next, housed-next, written-next}
+use Rattle.desk.proofs.Laws.{housed-more, written-more, turned-at, answered-at}
 use Rattle.desk.proofs.running.turn.Statement.{statement}
 use Rattle.desk.proofs.running.turn.Tie as tie
-use Rattle.desk.specs.Turn.{requests, wired, share, housed, written, turned, answered}
+use Rattle.desk.specs.Turn.{requests, wired, housed, written}
 
 abbrev Inv-loop : tie.InvT-loop
 Inv-loop requests replies₀ most count h₀ n₀ replies h n = (n ≤ count) × (length replies ≡ length replies₀) × (h ≡ housed n h₀ requests) × (replies ≡ written n h₀ requests replies₀)
 
 abbrev μ-loop : tie.MeasureT-loop
 μ-loop requests replies₀ most count h₀ n₀ replies h n = count - n
-
--- the n-th reply has its place
-roomy : (c : tie.In-loop Inv-loop μ-loop) → (c .before .loop .n * 16 + 16 ≤ length (c .before .loop .replies)) × (c .before .loop .n * 16 < 18446744073709551616)
-roomy c = (omega arith, omega arith)
-
--- what was lent to the turn
-abbrev house : tie.After-step Inv-loop μ-loop → House
-house c = c .before .before .before .before .before .before .before .before .args .h
-
-abbrev input : tie.After-step Inv-loop μ-loop → List ℕ
-input c = c .before .before .before .before .before .before .before .before .args .requests .now
-
-abbrev room : tie.After-step Inv-loop μ-loop → List ℕ
-room c = c .before .before .before .before .before .before .before .before .args .replies .now
-
--- the step is that of the n-th request
-stepping : (c : tie.After-step Inv-loop μ-loop) → c .step .result ≡ next (house c) (input c) (room c) (c .before .before .before .loop .n)
-stepping c = c .step .ensures ∙ ap₂ stepped (c .before .before .before .loop .inv .2) (c .before .request-at .ensures)
 
 least-requires : tie.Need-least-requires Inv-loop μ-loop
 least-requires c κs = search needs
@@ -56,26 +37,32 @@ step-requires : tie.Need-step-requires Inv-loop μ-loop
 step-requires c κs = search needs
 
 mul-put-reply : tie.Need-mul-put-reply Inv-loop μ-loop
-mul-put-reply c = omega (arith, roomy (c .before .before .before .before))
+mul-put-reply c = search needs
 
 put-reply-requires : tie.Need-put-reply-requires Inv-loop μ-loop
-put-reply-requires c κs = roomy (c .before .before .before .before) .0
+put-reply-requires c κs = search needs
 
 add-n : tie.Need-add-n Inv-loop μ-loop
-add-n c = omega (arith, roomy (c .before .before .before .before .before .before .before .before))
+add-n c = search needs
 
 loop-less : tie.Need-loop-less Inv-loop μ-loop
-loop-less c = omega (arith, c .before .before .before .before .before .before .before .before .loop-test .taken)
+loop-less c = search needs
 
 loop-again : tie.Need-loop-again Inv-loop μ-loop
-loop-again c = let s = c .before .before .before .before .before .before in (omega (arith, c .before .before .before .before .before .before .before .before .loop-test .taken), c .before .before .before .put-reply .kept .0 ∙ c .before .before .before .before .before .before .before .before .before .loop .inv .1, ap (λ o. o .house) (stepping s) ∙ sym (housed-next (house s) (input s) (room s) (c .before .before .before .before .before .before .before .before .before .loop .n)), c .before .before .before .put-reply .ensures ∙ written-next (house s) (input s) (room s) (c .before .before .before .before .before .before .before .before .before .loop .n) (c .before .before .before .before .before .before .before .before .before .loop .inv .3) (ap (λ o. o .reply) (stepping s)))
+loop-again c =
+    let s : tie.After-step Inv-loop μ-loop = search in
+    let p : tie.After-put-reply Inv-loop μ-loop = search in (
+      search needs,
+      search needs,
+      housed-more _ _ _ _ _ _ (s .step .ensures) (search) (search) _ refl,
+      written-more _ _ _ _ _ _ (s .step .ensures) (search) (search) _ _ _ (search) (p .put-reply .ensures),
+    )
 
 same-length : tie.Need-same-length Inv-loop μ-loop
 same-length c = search needs
 
 returns : tie.Need-returns Inv-loop μ-loop
-unfolding turned answered share
-returns c = let e : c .before .loop .n ≡ c .before .before .least2 .result = omega arith in let s = c .before .before .least2 .ensures ∙ ap (min (c .before .before .before .before .before .before .args .most)) (c .before .before .before .least .ensures) in (rw (sym s, c .before .loop .inv .2, e), rw (sym s, c .before .loop .inv .3, e))
+returns c = (search turned-at, search answered-at)
 
 pub turn-spec : {M : Type 1} → statement M
 turn-spec =

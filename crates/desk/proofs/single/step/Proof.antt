@@ -1,40 +1,9 @@
-use mathlib.Core.Bool.{true}
-use mathlib.Core.Path.{_≡_, sym, ap, _∙_}
+-- What is read of the house for the judge is in its bounds; what the judge, the reply and `perform` promise is the step, by the laws of one
+-- request (`Requests`).
 use borrow.Author.Needs.{needs}
-use Rattle.house.specs.Rules.{stepped}
-use Rattle.house.specs.declared.House.{House}
-use Rattle.house.specs.declared.Request.{Request}
-use Rattle.ruling.proofs.Judged.{shows}
-use Rattle.ruling.proofs.Steps.{ruled-steps, ruled-fits}
-use Rattle.ruling.specs.Judged.{Judged}
-use Rattle.ruling.specs.Ruling.{fits, effect, effectIfFit, ruled}
+use Rattle.desk.proofs.Requests.{unchanged, changed}
 use Rattle.desk.proofs.single.step.Statement.{statement}
 use Rattle.desk.proofs.single.step.Tie as tie
-
--- what came, seen from where the eight places were read, and from the ruling
-abbrev started : tie.After-p0 → tie.Start
-started c = c .before .before .before .before .before .before
-
-abbrev looked : tie.After-judge → tie.After-p0
-looked c = c .before .before .before .before .before .before .before .before .before .before
-
-abbrev house : tie.After-judge → House
-house c = started (looked c) .args .t1
-
-abbrev request : tie.After-judge → Request
-request c = started (looked c) .args .q
-
--- the judge was shown this house
-ruling : (c : tie.After-judge) → ruled (house c) (request c) ≡ c .judge .result
-unfolding Judged
-ruling c = sym (c .judge .ensures (house c) (shows (house c) (request c)))
-
-fit : (c : tie.After-judge) → fits (c .judge .result .change) ≡ true
-fit c = rw (ruling c) at (ruled-fits (house c) (request c))
-
--- so the step is its reply, with the effect of its change
-stepping : (c : tie.After-reply-to) → stepped (house (c .before)) (request (c .before)) ≡ record { house = effect (house (c .before)) (c .before .judge .result .change); reply = c .reply-to .result }
-stepping c = rw (ruled-steps, ruling (c .before), c .reply-to .ensures)
 
 cast-level : tie.Need-cast-level
 cast-level c = search needs
@@ -142,14 +111,13 @@ enum-told : tie.Need-enum-told
 enum-told c = search needs
 
 returns : tie.Need-returns
-returns c = let s = c .before .before in sym (stepping s ∙ ap (λ k. record { house = effect (house (s .before)) k; reply = s .reply-to .result }) (c .enum-told .given .1))
+returns c = search unchanged
 
 perform-requires : tie.Need-perform-requires
 perform-requires c κs = search needs
 
 returns-2 : tie.Need-returns-2
-unfolding effectIfFit
-returns-2 c = rw (stepping (c .before .before), c .perform .ensures, fit (c .before .before .before))
+returns-2 c = search changed
 
 pub step-spec : {M : Type 1} → statement M
 step-spec =

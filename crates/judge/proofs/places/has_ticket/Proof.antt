@@ -17,7 +17,7 @@ free-at-requires c κs = search needs
 
 returns : tie.Need-returns
 unfolding hasTicket
-returns c = rw (c .before .free-at .ensures, ne-eqb _ 0 (c .before .before .before .pre .1)) (sym (and-yes _))
+returns c = let s : tie.Start = search in rw (c .before .free-at .ensures, ne-eqb _ 0 (s .pre .1)) (sym (and-yes _))
 
 pub has-ticket-spec : {M : Type 1} → statement M
 has-ticket-spec = tie.close (tie.spec mul-place array-copy-out-place free-at-requires returns)

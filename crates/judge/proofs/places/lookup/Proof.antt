@@ -1,13 +1,22 @@
-use Prim.Native.Nat.{_-_, _≤_}
+-- Ticket 0 is told before the search (`zero-nowhere`). The invariant is that what is left of the eight gives the answer; `search searched` goes
+-- on, out and to the end.
+use Prim.Native.Nat.{ℕ, _-_, _<_, _≤_}
 use native.Mathlib.Omega.{arith}
-use mathlib.Core.Path.{_≡_, refl, sym, _∙_}
+use mathlib.Core.Path.{_≡_, refl, sym}
+use mathlib.Core.Logic.{_≢_}
 use borrow.Author.Needs.{needs}
 use Rattle.house.proofs.Places.{zero-nowhere}
-use Rattle.house.proofs.Searches.{passed, met, ended}
+use Rattle.house.proofs.Searches.{searched}
 use Rattle.house.specs.House.{hasTicket}
 use Rattle.house.specs.Search.{find}
 use Rattle.judge.proofs.places.lookup.Statement.{statement}
 use Rattle.judge.proofs.places.lookup.Tie as tie
+
+not-yet : (k n : ℕ) → k ≤ n → k ≢ n → k < n
+not-yet k n a b = omega arith
+
+at-end : (k n : ℕ) → k ≡ n → n ≤ k
+at-end k n e = omega arith
 
 abbrev Inv-loop : tie.InvT-loop
 Inv-loop eight ticket k₀ k = (k ≤ 8) × (find (hasTicket eight ticket) 0 8 ≡ find (hasTicket eight ticket) k (8 - k))
@@ -22,7 +31,7 @@ loop-holds : tie.Need-loop-holds Inv-loop μ-loop
 loop-holds c = (omega arith, refl)
 
 returns-2 : tie.Need-returns-2 Inv-loop μ-loop
-returns-2 c = sym (c .before .loop .inv .1 ∙ ended _ _ _ _ _ (omega arith))
+returns-2 c = search (searched, at-end)
 
 has-ticket-requires : tie.Need-has-ticket-requires Inv-loop μ-loop
 has-ticket-requires c κs = (omega arith, c .before .before .if1 .left)
@@ -34,10 +43,10 @@ loop-less : tie.Need-loop-less Inv-loop μ-loop
 loop-less c = search needs
 
 loop-again : tie.Need-loop-again Inv-loop μ-loop
-loop-again c = (omega arith, c .before .before .before .loop .inv .1 ∙ passed _ _ _ _ _ (omega arith) (sym (c .before .has-ticket .ensures) ∙ c .if3 .left))
+loop-again c = (omega arith, search (searched, not-yet))
 
 returns-3 : tie.Need-returns-3 Inv-loop μ-loop
-returns-3 c = sym (c .before .before .before .loop .inv .1 ∙ met _ _ _ _ _ (omega arith) (sym (c .before .has-ticket .ensures) ∙ c .if3 .taken))
+returns-3 c = search (searched, not-yet)
 
 pub lookup-spec : {M : Type 1} → statement M
 lookup-spec =

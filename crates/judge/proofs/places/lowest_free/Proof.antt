@@ -1,8 +1,7 @@
 use Prim.Native.Nat.{_-_}
-use native.Mathlib.Omega.{arith}
-use mathlib.Core.Path.{_≡_, refl, sym, _∙_}
+use mathlib.Core.Path.{_≡_, refl}
 use borrow.Author.Needs.{needs}
-use Rattle.house.proofs.Searches.{passed, met, ended}
+use Rattle.house.proofs.Searches.{searched}
 use Rattle.house.specs.House.{freeAt}
 use Rattle.house.specs.Search.{find}
 use Rattle.judge.proofs.places.lowest_free.Statement.{statement}
@@ -21,7 +20,7 @@ free-at-requires : tie.Need-free-at-requires Inv-loop μ-loop
 free-at-requires c κs = search needs
 
 returns : tie.Need-returns Inv-loop μ-loop
-returns c = sym (c .before .before .before .loop .inv ∙ met _ _ _ _ _ (omega arith) (sym (c .before .free-at .ensures) ∙ c .if1 .taken))
+returns c = search searched
 
 add-k : tie.Need-add-k Inv-loop μ-loop
 add-k c = search needs
@@ -30,10 +29,10 @@ loop-less : tie.Need-loop-less Inv-loop μ-loop
 loop-less c = search needs
 
 loop-again : tie.Need-loop-again Inv-loop μ-loop
-loop-again c = c .before .before .before .loop .inv ∙ passed _ _ _ _ _ (omega arith) (sym (c .before .free-at .ensures) ∙ c .if1 .left)
+loop-again c = search searched
 
 returns-2 : tie.Need-returns-2 Inv-loop μ-loop
-returns-2 c = sym (c .before .loop .inv ∙ ended _ _ _ _ _ (omega arith))
+returns-2 c = search searched
 
 pub lowest-free-spec : {M : Type 1} → statement M
 lowest-free-spec =

@@ -1,10 +1,10 @@
 use Prim.Native.Nat.{_+_, _-_, _≤_}
-use native.Mathlib.Nat.{add-zero, zero-add}
+use native.Mathlib.Nat.{zero-add}
 use native.Mathlib.Omega.{arith}
 use mathlib.Core.Logic.{⊎-elim}
-use mathlib.Core.Path.{_≡_, sym, ap, _∙_}
+use mathlib.Core.Path.{_≡_, sym}
 use borrow.Author.Needs.{needs}
-use Rattle.house.proofs.Searches.{ended, counted, uncounted}
+use Rattle.house.proofs.Searches.{searched}
 use Rattle.house.specs.Cell.{holds, countSignalled}
 use Rattle.house.specs.Search.{count}
 use Rattle.house.specs.declared.Mark.the-variants.{Signalled}
@@ -34,15 +34,10 @@ loop-less : tie.Need-loop-less Inv-loop μ-loop
 loop-less c = search needs
 
 loop-again : tie.Need-loop-again Inv-loop μ-loop
-loop-again c = let s = c .before .before .before .loop .inv .1 in
-    let e = sym (c .before .holds-mark .ensures) in
-    ⊎-elim
-    (λ w. (omega arith, counted _ _ _ _ _ _ s (omega arith) (e ∙ w .0 .taken) (w .1)))
-    (λ w. (omega arith, uncounted _ _ _ _ _ _ s (omega arith) (e ∙ w .0 .left) (w .1)))
-    (c .if1 .came)
+loop-again c = ⊎-elim (λ w. (omega arith, search searched)) (λ w. (omega arith, search searched)) (c .if1 .came)
 
 returns : tie.Need-returns Inv-loop μ-loop
-returns c = sym (c .before .loop .inv .1 ∙ ap (λ r. c .before .loop .n + r) (ended _ _ _ _ _ (omega arith)) ∙ add-zero _)
+returns c = search searched
 
 pub count-signalled-spec : {M : Type 1} → statement M
 count-signalled-spec =

@@ -1,11 +1,12 @@
+-- Who has written nothing waits for nobody (`nothing-written`). For the others the invariant is that what is left of the 64 gives the answer;
+-- `search searched` goes on, out and to the end.
 use Prim.Native.Nat.{_-_}
 use native.Mathlib.Nat.{mod-eq-of-lt}
-use native.Mathlib.Omega.{arith}
 use mathlib.Core.Path.{_≡_, refl, sym, _∙_}
 use borrow.Author.Tests.{not-true}
 use borrow.Author.Needs.{needs}
 use Rattle.house.proofs.Checks.{nothing-written}
-use Rattle.house.proofs.Searches.{passed, met, ended}
+use Rattle.house.proofs.Searches.{searched}
 use Rattle.house.specs.Rules.{waitsAt}
 use Rattle.house.specs.Search.{any}
 use Rattle.judge.proofs.scans.must_wait.Statement.{statement}
@@ -30,7 +31,7 @@ waits-at-requires : tie.Need-waits-at-requires Inv-loop μ-loop
 waits-at-requires c κs = search needs
 
 returns-2 : tie.Need-returns-2 Inv-loop μ-loop
-returns-2 c = sym (c .before .before .before .loop .inv ∙ met _ _ _ _ _ (omega arith) (sym (c .before .waits-at .ensures) ∙ c .if2 .taken))
+returns-2 c = search searched
 
 add-i : tie.Need-add-i Inv-loop μ-loop
 add-i c = search needs
@@ -39,10 +40,10 @@ loop-less : tie.Need-loop-less Inv-loop μ-loop
 loop-less c = search needs
 
 loop-again : tie.Need-loop-again Inv-loop μ-loop
-loop-again c = c .before .before .before .loop .inv ∙ passed _ _ _ _ _ (omega arith) (sym (c .before .waits-at .ensures) ∙ c .if2 .left)
+loop-again c = search searched
 
 returns-3 : tie.Need-returns-3 Inv-loop μ-loop
-returns-3 c = sym (c .before .loop .inv ∙ ended _ _ _ _ _ (omega arith))
+returns-3 c = search searched
 
 pub must-wait-spec : {M : Type 1} → statement M
 must-wait-spec =

@@ -1,9 +1,8 @@
 use Prim.Native.Nat.{_+_, _-_, _*_, _/_}
-use native.Mathlib.Omega.{arith}
 use mathlib.Core.Bool.{_||_}
-use mathlib.Core.Path.{_≡_, refl, ap}
+use mathlib.Core.Path.{_≡_, refl}
 use borrow.Author.Needs.{needs}
-use Rattle.house.proofs.Searches.{started, folded, fold-ended}
+use Rattle.house.proofs.Searches.{started, searched}
 use Rattle.house.specs.Cell.{anotherHolds, peerHolds}
 use Rattle.house.specs.Search.{any}
 use Rattle.judge.proofs.scans.peer_holds.Statement.{statement}
@@ -35,10 +34,10 @@ loop-less : tie.Need-loop-less Inv-loop μ-loop
 loop-less c = search needs
 
 loop-again : tie.Need-loop-again Inv-loop μ-loop
-loop-again c = (search needs, folded _ _ (c .before .before .loop .hit) _ _ _ (c .before .before .loop .inv .1) (omega arith) (ap (λ b. c .before .before .loop .hit || b) (c .another-holds .ensures)))
+loop-again c = (search needs, search searched)
 
 returns : tie.Need-returns Inv-loop μ-loop
-returns c = fold-ended _ _ (c .before .loop .hit) (c .before .loop .hit) _ _ (c .before .loop .inv .1) (omega arith)
+returns c = search searched
 
 pub peer-holds-spec : {M : Type 1} → statement M
 peer-holds-spec =

@@ -1,5 +1,5 @@
-use mathlib.Core.Path.{sym, _∙_}
 use borrow.Author.Needs.{needs}
+use Rattle.house.proofs.Branches.{followed}
 use Rattle.house.specs.Rules.{waitsAt}
 use Rattle.judge.proofs.scans.waits_at.Statement.{statement}
 use Rattle.judge.proofs.scans.waits_at.Tie as tie
@@ -12,11 +12,11 @@ peer-holds-requires c κs = search needs
 
 returns : tie.Need-returns
 unfolding waitsAt
-returns c = simp (waitsAt, sym (c .before .before .holds-mark .ensures) ∙ c .before .if1 .taken, c .peer-holds .ensures)
+returns c = search followed
 
 returns-2 : tie.Need-returns-2
 unfolding waitsAt
-returns-2 c = c .if1 .left ∙ sym (simp (waitsAt, sym (c .before .holds-mark .ensures) ∙ c .if1 .left))
+returns-2 c = search followed
 
 pub waits-at-spec : {M : Type 1} → statement M
 waits-at-spec = tie.close (tie.spec holds-mark-requires peer-holds-requires returns returns-2)
