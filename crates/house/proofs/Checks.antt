@@ -17,7 +17,7 @@ use Rattle.house.specs.declared.Request.{Request}
 use Rattle.house.specs.Search.{any, nobody, anyOf, distinct}
 use Rattle.house.specs.Cell.{holds}
 use Rattle.house.specs.Checks.{foremost, someApplies, testOf, before}
-use Rattle.house.specs.Rules.{asker, noOperation, noLevel, usesItem, unusedSet, unknown, noItem, forbidden, stopped, untimely, wornOut, crowded, ticketless, delayed, refusals, checks, verdict, waitsAt}
+use Rattle.house.specs.Rules.{asker, noLevel, usesItem, unusedSet, unknown, noItem, forbidden, stopped, untimely, wornOut, crowded, ticketless, delayed, refusals, checks, verdict, waitsAt}
 use Rattle.house.proofs.Tests.{is, clash, and-true, and-right-false, and-no, or-false, not-of}
 use Rattle.house.proofs.Operations.{OperationOf, operation-of}
 use Rattle.house.proofs.Searches.{scan-same, any-none}
@@ -109,13 +109,18 @@ pub record Clear (h : House) (q : Request) : Type 0 where
   pub roomy : crowded h q ≡ false
   pub ticketed : ticketless h q ≡ false
 
+-- a level that is there is one of the four
+pub level-there : (q : Request) → noLevel q ≡ false → q .level < 4
+unfolding noLevel
+level-there q e = omega (arith, ltb-false 3 (q .level) e)
+
 pub clear : (h : House) (q : Request) → foremost (refusals h q) ≡ 0 → Clear h q
-unfolding refusals noOperation noLevel
+unfolding refusals
 clear h q e =
     let past = test-fails (refusals h q) (none-applies (refusals h q) refl e) in
     record {
       operation = operation-of q (past 3);
-      level = omega (arith, ltb-false 3 (q .level) (past 4));
+      level = level-there q (past 4);
       unused = past 5;
       known = past 6;
       present = past 7;

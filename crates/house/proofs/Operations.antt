@@ -18,19 +18,19 @@ pub data OperationOf (q : Request) : Type 0 where
   is-abort : q .operation ≡ abort → OperationOf q
   is-ask : q .operation ≡ ask → OperationOf q
 
-numbered : {q : Request} (n : ℕ) → q .operation ≡ n → n < 7 → OperationOf q
-numbered zero e b = is-begin e
-numbered (suc zero) e b = is-read e
-numbered (suc (suc zero)) e b = is-write e
-numbered (suc (suc (suc zero))) e b = is-certify e
-numbered (suc (suc (suc (suc zero)))) e b = is-commit e
-numbered (suc (suc (suc (suc (suc zero))))) e b = is-abort e
-numbered (suc (suc (suc (suc (suc (suc zero)))))) e b = is-ask e
-numbered (suc (suc (suc (suc (suc (suc (suc n))))))) e b = absurd (omega arith)
+of-number : {q : Request} (n : ℕ) → q .operation ≡ n → n < 7 → OperationOf q
+of-number zero e b = is-begin e
+of-number (suc zero) e b = is-read e
+of-number (suc (suc zero)) e b = is-write e
+of-number (suc (suc (suc zero))) e b = is-certify e
+of-number (suc (suc (suc (suc zero)))) e b = is-commit e
+of-number (suc (suc (suc (suc (suc zero))))) e b = is-abort e
+of-number (suc (suc (suc (suc (suc (suc zero)))))) e b = is-ask e
+of-number (suc (suc (suc (suc (suc (suc (suc n))))))) e b = absurd (omega arith)
 
 pub operation-of : (q : Request) → noOperation q ≡ false → OperationOf q
 unfolding noOperation
-operation-of q n = numbered (q .operation) refl (omega (arith, ltb-false 6 (q .operation) n))
+operation-of q n = of-number (q .operation) refl (omega (arith, ltb-false 6 (q .operation) n))
 
 -- the number of any other
 pub not-begin : {k n : ℕ} → k ≡ suc n → k ≢ begin

@@ -15,16 +15,16 @@ unfolding refusals checks noOperation noLevel unusedSet unknown noItem forbidden
 tests = tt
 
 -- the searches, the cells and the tests that these are made of
-unfoldable pub parts : Unit {0}
+parts : Unit {0}
 unfolding scan mapFrom has marked unmarked cellAt withMark mapCells holds anotherHolds otherHolds peerHolds isSignalled firstSignalled countSignalled dominates above fixed freeAt hasTicket seek vacancy waitsAt readLock
 parts = tt
 
 -- what is done of each request, and its answer
-unfoldable pub effects : Unit {0}
+effects : Unit {0}
 unfolding ticketAfter grown begun readBy readAnswer writtenBy signalledCell convertedCell certifiedCell certifiedBy droppedPending clearedCell left committedItem askAnswer served performed stepped
 effects = tt
 
-unfoldable pub openings : Unit {0}
+openings : Unit {0}
 unfolding wrongLength highAt wrongLevel openVerdict rowAt rows opened opening
 openings = tt
 

@@ -7,8 +7,7 @@ use mathlib.Core.Bool.{Bool, false, _||_}
 use lib.Dec.{leb}
 use mir.Syntax.{w16, w64}
 use mir.Val.{Fits}
-use borrow.Author.Tests.{ltb-false}
-use Rattle.house.proofs.Checks.{there}
+use Rattle.house.proofs.Checks.{there, level-there}
 use Rattle.house.proofs.Searches.{find-below}
 use Rattle.house.specs.declared.Answer.{Answer}
 use Rattle.house.specs.declared.Answer.the-variants.{Signals}
@@ -34,8 +33,7 @@ listed b count i e n = there count i (sym e ∙ n) .1
 
 -- the level is one of the four, the place found one of its eight, and so one of the 32
 pub low : (b : Bool) (q : Request) → b ≡ noLevel q → b ≡ false → q .level < 4
-unfolding noLevel
-low b q e n = omega (arith, ltb-false 3 (q .level) (sym e ∙ n))
+low b q e n = level-there q (sym e ∙ n)
 
 pub near : (a : Found) (f : ℕ → Bool) (n k : ℕ) → a ≡ find f 0 n → a ≡ At k → k < n
 near a f n k e p = omega (arith, find-below f 0 n k (sym e ∙ p))

@@ -1,13 +1,12 @@
 -- Demand 1: proofs of the statements in specs/Answers.antt.
 -- Assumes nothing.
 use Prim.Native.Nat.{ℕ, _*_}
-use native.Mathlib.Omega.{arith}
 use mathlib.Core.Path.{_≡_, refl, sym, ap, _∙_}
 use mathlib.Core.Logic.{_≢_, inl, inr}
 use mathlib.Core.Bool.{Bool, true, false, _||_, cond}
 use mathlib.Core.List.{List, [], _∷_, map}
 use lib.Dec.{eqb}
-use borrow.Author.Tests.{eq-eqb, ne-eqb, ltb-false}
+use borrow.Author.Tests.{eq-eqb, ne-eqb}
 use Rattle.house.specs.declared.Found.{Found}
 use Rattle.house.specs.declared.Found.the-variants.{At, Nobody}
 use Rattle.house.specs.declared.House.{House}
@@ -20,7 +19,7 @@ use Rattle.house.specs.Rules.{begin, asker, noOperation, noLevel, unusedSet, un
 use Rattle.house.specs.Opening.{wrongLength, wrongLevel, openVerdict, opening}
 use Rattle.house.proofs.Tests.{is, clash, or-left, or-right, or-elim}
 use Rattle.house.proofs.Places.{zero-nowhere}
-use Rattle.house.proofs.Checks.{none-applies, none-given, first-given, clear, passes, asker-known}
+use Rattle.house.proofs.Checks.{none-applies, none-given, first-given, level-there, clear, passes, asker-known}
 use Rattle.house.proofs.Effects.{begun-fixed, read-fixed, written-fixed, certified-fixed, committed-fixed, aborted-fixed}
 use Rattle.reach.specs.Answers.{Stranger, TurnedDown, RefusalKeeps, FirstGiven, DoneExactly, OrderStands, NumberStands, OpeningStands, FixedStays, StrangerRefused, ZeroRefused, StrangerGetsSix, ZeroGetsSix, ZeroNamesNobody}
 use Rattle.reach.proofs.Turns.{Asker, found, Turn, refused, waits, begins, reads, writes, certifies, commits, aborts, asks, turn, refused-is, done-is}
@@ -103,9 +102,8 @@ stranger-elsewhere : (h : House) (q : Request) → Stranger h q → (me : ℕ) �
 stranger-elsewhere h q s me A = let k = A .seated in s me (k .within .place) (k .within .level) (k .taken) (k .ticket)
 
 stranger-nobody : (h : House) (q : Request) → noLevel q ≡ false → Stranger h q → (who : Found) → asker h q ≡ who → who ≡ Nobody
-unfolding noLevel
 stranger-nobody h q l s Nobody e = refl
-stranger-nobody h q l s (At p) e = absurd (stranger-elsewhere h q s p (found (omega (arith, ltb-false 3 (q .level) l)) e))
+stranger-nobody h q l s (At p) e = absurd (stranger-elsewhere h q s p (found (level-there q l) e))
 
 zero-nobody : (h : House) (q : Request) → q .ticket ≡ 0 → asker h q ≡ Nobody
 unfolding seek

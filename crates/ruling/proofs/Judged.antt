@@ -10,7 +10,7 @@ use mathlib.Core.List.{List, [], _∷_, _++_}
 use lib.ListN.{length, drop, getD, replicate, length-replicate}
 use lib.Seq.{getD-append-add}
 use lib.Dec.{eqb, leb}
-use borrow.Author.Tests.{eq-eqb, ne-eqb, ltb-false, leb-false, not-true}
+use borrow.Author.Tests.{eq-eqb, ne-eqb, leb-false, not-true}
 use Rattle.house.specs.declared.Found.{Found}
 use Rattle.house.specs.declared.Found.the-variants.{At, Nobody}
 use Rattle.house.specs.declared.House.{House}
@@ -24,7 +24,7 @@ use Rattle.house.specs.Rules.{begin, _does_, asker, noOperation, noLevel, unuse
 use Rattle.house.proofs.Unfolding.{tests}
 use Rattle.house.proofs.Operations.{operation-of, is-begin, is-read, is-write, is-certify, is-commit, is-abort, is-ask}
 use Rattle.house.proofs.Tests.{is, same, and-true, or-right}
-use Rattle.house.proofs.Checks.{numbered}
+use Rattle.house.proofs.Checks.{numbered, level-there}
 use Rattle.house.proofs.Searches.{find-at}
 use Rattle.house.specs.declared.Answer.the-variants.{Ticket}
 use Rattle.ruling.specs.declared.Case.{Case}
@@ -152,9 +152,8 @@ unless false a x y e = e refl
 
 module _ (v : View) (cells : List ℕ) (q : Request) (h : House) (k : Shown h q v cells) where
   module _ (known : noOperation q ≡ false) (low : noLevel q ≡ false) where
-    level : q .level < 4
-    unfolding noLevel
-    level = omega (arith, ltb-false 3 (q .level) low)
+    abbrev level : q .level < 4
+    level = level-there q low
 
     seek-eight : asker h q ≡ moved (q .level * 8) (find (hasTicket (v .eight) (q .ticket)) 0 8)
     unfolding seek hasTicket freeAt
