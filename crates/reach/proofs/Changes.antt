@@ -132,7 +132,7 @@ module _ {h : House} {me i : ℕ} (L : Law h) (K : MayRead h me i) where
 
 -- WRITE
 
-module _ {h : House} {me i : ℕ} (v : ℕ) (L : Law h) (K : MayWrite h me i) where
+module _ {h : House} {me i v : ℕ} (L : Law h) (K : MayWrite h me i v) where
   pub write-mine : (n : Mark) (j : ℕ) → j < 64 → has n (cellAt (writtenBy h me i v .cells) me j) ≡ (alike n Write && eqb j i || has n (cellAt (h .cells) me j))
   unfolding writtenBy
   write-mine n j a = has-withMark (h .cells) (L .sizes .cells) n Write me i j (K .place) (K .row) a

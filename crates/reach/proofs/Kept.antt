@@ -160,7 +160,7 @@ module _ {h : House} {me i : ℕ} (L : Law h) (T : Tidy h) (K : MayRead h me i) 
       }
 
 -- Write
-module _ {h : House} {me i : ℕ} (v : ℕ) (L : Law h) (T : Tidy h) (K : MayWrite h me i) where
+module _ {h : House} {me i v : ℕ} (L : Law h) (T : Tidy h) (K : MayWrite h me i v) where
   write-neat : Neat h (writtenBy h me i v) me
   unfolding writtenBy
   write-neat =
@@ -168,8 +168,8 @@ module _ {h : House} {me i : ℕ} (v : ℕ) (L : Law h) (T : Tidy h) (K : MayWri
         rows = λ j a c. refl;
         pending = λ j a g.
             elim (same j i) [
-              | inl e ↦ clash (write-holds v L K) (rw e at g)
-              | inr n ↦ inr (sym (write-held v L K j a n) ∙ g, written-pending-other h me i v j n)
+              | inl e ↦ clash (write-holds L K) (rw e at g)
+              | inr n ↦ inr (sym (write-held L K j a n) ∙ g, written-pending-other h me i v j n)
             ];
         ticketless = T .ticketless me (K .place);
         named = T .named me (K .place);
@@ -236,7 +236,7 @@ turn-both B (refused n) = B
 turn-both B (waits me A z c) = B
 turn-both B (begins me o K) = changed B (K .place) (begin-frame (B .0) K) (begin-own (B .0) K) (begin-neat (B .0) (B .1) K)
 turn-both B (reads me o A K) = changed B (K .place) (read-frame (B .0) K) (read-own (B .0) K) (read-neat (B .0) (B .1) K)
-turn-both B (writes me o A K) = changed B (K .place) (write-frame _ (B .0) K) (write-own _ (B .0) K) (write-neat _ (B .0) (B .1) K)
+turn-both B (writes me o A K) = changed B (K .place) (write-frame (B .0) K) (write-own (B .0) K) (write-neat (B .0) (B .1) K)
 turn-both B (certifies me o A K) = changed B (K .place) (certify-frame (B .0) K) (certify-own (B .0) K) (certify-neat (B .0) (B .1) K)
 turn-both B (commits me o A K) = let m = K .place in changed B m (commit-frame (B .0) m) (commit-own (B .0) m) (commit-neat (B .0) (B .1) m)
 turn-both B (aborts me o A) = let m = A .seated .within .place in changed B m (abort-frame (B .0) m) (abort-own (B .0) m) (abort-neat (B .0) (B .1) m)

@@ -45,7 +45,8 @@ pub record MayRead (h : House) (me i : ℕ) : Type 0 where
   pub may : dominates (levelOf me) (itemAt (h .items) i .level) ≡ true
   pub uncontested : (p : ℕ) → p < 32 → p ≢ me → has Certify (cellAt (h .cells) p i) ≡ false
 
-pub record MayWrite (h : House) (me i : ℕ) : Type 0 where
+-- Write, of v to item i
+pub record MayWrite (h : House) (me i v : ℕ) : Type 0 where
   pub place : me < 32
   pub row : i < 64
   pub item : i < h .count
@@ -78,7 +79,7 @@ pub data Turn (h : House) (q : Request) : Outcome → Type 0 where
   waits : (me : ℕ) → Asker h q me → foremost (refusals h q) ≡ 0 → conflict (h .cells) q me ≡ true → Turn h q (outcome h q (Refused 1))
   begins : (me : ℕ) → q .operation ≡ 0 → MayBegin h (q .level) me → Turn h q (outcome (begun h (q .level) me) q (Ticket (nextAt (h .next) (q .level))))
   reads : (me : ℕ) → q .operation ≡ 1 → Asker h q me → MayRead h me (q .item) → Turn h q (outcome (readBy h me (q .item)) q (readFor h me (q .item)))
-  writes : (me : ℕ) → q .operation ≡ 2 → Asker h q me → MayWrite h me (q .item) → Turn h q (outcome (writtenBy h me (q .item) (q .value)) q Done)
+  writes : (me : ℕ) → q .operation ≡ 2 → Asker h q me → MayWrite h me (q .item) (q .value) → Turn h q (outcome (writtenBy h me (q .item) (q .value)) q Done)
   certifies : (me : ℕ) → q .operation ≡ 3 → Asker h q me → MayCertify h me → Turn h q (outcome (certifiedBy h me) q Done)
   commits : (me : ℕ) → q .operation ≡ 4 → Asker h q me → MayCommit h me → Turn h q (outcome (committedBy h me) q Done)
   aborts : (me : ℕ) → q .operation ≡ 5 → Asker h q me → Turn h q (outcome (abortedBy h me) q Done)
@@ -138,7 +139,7 @@ module _ (h : House) (q : Request) (z : foremost (refusals h q) ≡ 0) where
           uncontested = other-none (h .cells) Certify me (q .item) (rw (o, A .at) at undelayed);
         }
 
-    may-write : q .operation ≡ 2 → MayWrite h me (q .item)
+    may-write : q .operation ≡ 2 → MayWrite h me (q .item) (q .value)
     unfolding forbidden untimely wornOut delayed conflict held
     may-write o =
         let i = item-there h q (rw o) (c .present) in

@@ -193,10 +193,10 @@ module _ {t : Table} {h : House} {past : Past} (I : Known t h past) (q : Request
           (rw (read-number h q me (q .item)) (rw o)) (rw (read-number h q me (q .item)) (rw o)) refl (λ l. refl)
           (read-told (I .law) q o K _ (I .told _ (K .place) (S .taken))) (read-table h me (q .item))
 
-      write-known : q .operation ≡ 2 → MayWrite h me (q .item) → Known t (writtenBy h me (q .item) (q .value)) ((q, replied q Done) ∷ past)
+      write-known : q .operation ≡ 2 → MayWrite h me (q .item) (q .value) → Known t (writtenBy h me (q .item) (q .value)) ((q, replied q Done) ∷ past)
       unfolding writtenBy
       write-known o K =
-          worked I (write-frame (q .value) (I .law) K) (write-own (q .value) (I .law) K) (K .place) _ (S .taken) (sym (S .within .level)) (sym (S .ticket))
+          worked I (write-frame (I .law) K) (write-own (I .law) K) (K .place) _ (S .taken) (sym (S .within .level)) (sym (S .ticket))
           (rw o) (rw o) refl (λ l. refl)
           (write-told (I .law) q o K _ (I .told _ (K .place) (S .taken))) (write-table h me (q .item) (q .value))
 

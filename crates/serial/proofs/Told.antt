@@ -129,25 +129,24 @@ module _ {h : House} {me : ℕ} (L : Law h) (q : Request) (op : q .operation ≡
       }
 
 -- Write
-module _ {h : House} {me : ℕ} (L : Law h) (q : Request) (op : q .operation ≡ write) (K : MayWrite h me (q .item)) (own : Past) (k : Told h me own) where
+module _ {h : House} {me : ℕ} (L : Law h) (q : Request) (op : q .operation ≡ write) (K : MayWrite h me (q .item) (q .value)) (own : Past) (k : Told h me own) where
   write-shown : (j : ℕ) → j < 64 → (r : Row) → shown ((q, replied q Done) ∷ own) j r ≡ cond (held (cellAt (writtenBy h me (q .item) (q .value) .cells) me j)) (pendingAt (writtenBy h me (q .item) (q .value) .pending) j, r .1 + 1) r
   unfolding shown
   write-shown j a r =
       rw op
       (elim (same j (q .item)) [
-        | inl d ↦ rw (d, eq-eqb (q .item) (q .item) refl, write-holds (q .value) L K, written-pending (L .sizes) me (q .item) (q .value) (K .row))
-        | inr n ↦ rw (ne-eqb (q .item) j (λ d. n (sym d)), write-held (q .value) L K j a n, written-pending-other h me (q .item) (q .value) j n) (k .writes j a r)
+        | inl d ↦ rw (d, eq-eqb (q .item) (q .item) refl, write-holds L K, written-pending (L .sizes) me (q .item) (q .value) (K .row))
+        | inr n ↦ rw (ne-eqb (q .item) j (λ d. n (sym d)), write-held L K j a n, written-pending-other h me (q .item) (q .value) j n) (k .writes j a r)
       ])
 
   pub write-told : Told (writtenBy h me (q .item) (q .value)) me ((q, replied q Done) ∷ own)
   unfolding writtenBy
   write-told =
-      let v = q .value in
       record {
         writes = write-shown;
         reads = (
           (λ o. clash (rw op) o),
-          vouches-mine h (writtenBy h me (q .item) (q .value)) me (λ j a r. write-mine v L K Read j a ∙ r) (λ j a. write-mine v L K Signalled j a) (λ j a. refl) own (k .reads),
+          vouches-mine h (writtenBy h me (q .item) (q .value)) me (λ j a r. write-mine L K Read j a ∙ r) (λ j a. write-mine L K Signalled j a) (λ j a. refl) own (k .reads),
         );
       }
 
