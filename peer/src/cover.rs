@@ -13,7 +13,7 @@ const ROWS: usize = 8;
 const ROW_NAMES: [&str; ROWS] =
     ["begin", "read", "write", "certify", "commit", "abort", "ask", "above 6"];
 /// Columns: the reply numbers that a request can get.
-const NUMBERS: usize = 13;
+const NUMBERS: [u8; 13] = [0, 1, 2, 3, 4, 5, 6, 7, 8, 9, 10, 11, 12];
 
 /// The numbers each operation can get in a run. A number is missing where its row in document
 /// 01's table names another operation, or a field that the operation does not have.
@@ -45,7 +45,7 @@ const STANDINGS: [&str; 4] = ["active", "active, signalled", "certified", "certi
 
 #[derive(Default)]
 struct Counts {
-    replies: [[u64; NUMBERS]; ROWS],
+    replies: [[u64; NUMBERS.len()]; ROWS],
     /// By operation and standing of the transaction that the request names.
     standings: [[u64; STANDINGS.len()]; ROWS],
     opened: u64,
@@ -94,8 +94,8 @@ impl Counts {
             return;
         };
         let row = usize::from(reply.operation).min(ROWS - 1);
-        match self.replies[row].get_mut(usize::from(reply.number)) {
-            Some(count) => *count += 1,
+        match column(reply.number) {
+            Some(column) => self.replies[row][column] += 1,
             None => self.strange += 1,
         }
     }
@@ -104,7 +104,7 @@ impl Counts {
     fn faults(&self) -> Vec<String> {
         let mut faults = Vec::new();
         for (row, name) in ROW_NAMES.iter().enumerate() {
-            for (number, &count) in (0..).zip(&self.replies[row]) {
+            for (number, count) in NUMBERS.into_iter().zip(self.replies[row]) {
                 match (REACHABLE[row].contains(&number), count) {
                     (true, 0) => faults.push(format!("{name} was never answered {number}")),
                     (false, 1..) => faults.push(format!("{name} cannot be answered {number}")),
@@ -143,12 +143,12 @@ impl Counts {
             "\nreplies by operation and number (. cannot be, far: out of reach in a run)"
         )?;
         write!(out, "{:<8}", "")?;
-        for number in 0..NUMBERS {
+        for number in NUMBERS {
             write!(out, "{number:>8}")?;
         }
         for (row, name) in ROW_NAMES.iter().enumerate() {
             write!(out, "\n{name:<8}")?;
-            for (number, &count) in (0..).zip(&self.replies[row]) {
+            for (number, count) in NUMBERS.into_iter().zip(self.replies[row]) {
                 write!(out, "{:>8}", count_or_mark(row, number, count))?;
             }
         }
@@ -164,6 +164,10 @@ impl Counts {
         }
         Ok(())
     }
+}
+
+fn column(number: u8) -> Option<usize> {
+    NUMBERS.iter().position(|&known| known == number)
 }
 
 fn standing(place: &Place) -> usize {
