@@ -154,6 +154,7 @@ static int read_item(const struct request *q, struct place *me, struct reply *a)
 static int write_item(const struct request *q, struct place *me) {
     if (q->item >= house.count) return NO_ITEM;
     if (house.level[q->item] != q->level) return WRONG_LEVEL;
+    if (q->value == 0) return BLANK_SHEET;
     if (me->signalled) return SIGNALLED;
     if (me->standing != ACTIVE) return WRONG_TIME;
     if (house.version[q->item] == UINT32_MAX) return VERSIONS_SPENT;

@@ -70,6 +70,7 @@ static int write_item(struct plain_house *h, const struct request *q, int me) {
     if (q->item >= h->count) return NO_ITEM;
     struct plain_item *item = &h->items[q->item];
     if (item->level != q->level) return WRONG_LEVEL;
+    if (q->value == 0) return BLANK_SHEET;
     if (plain_is_signalled(h, me)) return SIGNALLED;
     if (h->places[me].standing != ACTIVE) return WRONG_TIME;
     if (item->version == UINT32_MAX) return VERSIONS_SPENT;

@@ -9,7 +9,7 @@ BEGIN {
     meaning[0] = "done"; meaning[1] = "delayed"; meaning[2] = "signalled"; meaning[3] = "no such operation"
     meaning[4] = "no such level"; meaning[5] = "an unused field is not zero"; meaning[6] = "no such transaction"
     meaning[7] = "no such item"; meaning[8] = "wrong level"; meaning[9] = "wrong time"; meaning[10] = "versions spent"
-    meaning[11] = "all places taken"; meaning[12] = "no ticket left"
+    meaning[11] = "all places taken"; meaning[12] = "no ticket left"; meaning[15] = "blank sheet"
 }
 $1 == "meta" { value = $5; for (k = 6; k <= NF; k++) value = value "," $k; meta[$3] = value }
 $1 == "time" || $1 == "x86_64" { if (!($3 in seen)) { seen[$3] = 1; desks[++n] = $3 } }
@@ -46,7 +46,7 @@ END {
     if (few) figures("x86-64 instructions per request (ratio to plain C; to tuned C)", foreign)
 
     head("the mix met: reply, share in percent")
-    for (k = 0; k <= 12; k++) {
+    for (k = 0; k <= 15; k++) {
         line = ""; met = 0
         for (m = 1; m <= 3; m++) { met += of_number[mixes[m], k]; line = line shared(of_number[mixes[m], k], mixes[m]) }
         if (met) row(k " " meaning[k], line)

@@ -56,6 +56,12 @@ static uint16_t item_at(struct maker *m, unsigned level) {
     return (uint16_t)(level + LEVELS * below(m, TRAFFIC_ITEMS / LEVELS));
 }
 
+// A sheet's number: never 0, which is refused.
+static uint32_t sheet(struct maker *m) {
+    uint32_t number = (uint32_t)draw(m);
+    return number ? number : 1;
+}
+
 static unsigned open_at(const struct maker *m, unsigned level) {
     unsigned open = 0;
     for (int k = 0; k < PLACES_PER_LEVEL; k++)
@@ -100,7 +106,7 @@ static struct request of_open(struct maker *m, unsigned level) {
     }
     if (operation == WRITE) {
         q.item = item_at(m, level);
-        q.value = (uint32_t)draw(m);
+        q.value = sheet(m);
     }
     return q;
 }
@@ -109,7 +115,7 @@ static struct request stale(struct maker *m, unsigned level) {
     struct request q = {.operation = (uint8_t)(READ + below(m, OPERATIONS - READ)),
                         .level = (uint8_t)level};
     if (q.operation == READ || q.operation == WRITE) q.item = item_at(m, below(m, LEVELS));
-    if (q.operation == WRITE) q.value = (uint32_t)draw(m);
+    if (q.operation == WRITE) q.value = sheet(m);
     // Mostly one that ended not long ago; the oldest may still be open.
     uint32_t next = m->house.next_ticket[level];
     uint32_t back = 8 + below(m, 50);
@@ -125,7 +131,7 @@ static struct request wrong_level(struct maker *m, unsigned level) {
     unsigned other = above ? level + 1 + below(m, LEVELS - 1 - level)
                            : (level + 1 + below(m, LEVELS - 1)) % LEVELS;
     q.item = item_at(m, other);
-    q.value = above ? 0 : (uint32_t)draw(m);
+    q.value = above ? 0 : sheet(m);
     return q;
 }
 

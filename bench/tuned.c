@@ -72,6 +72,7 @@ static inline int write_item(struct tuned_house *h, const struct request *q, int
     size_t i = q->item;
     if (i >= h->count) return NO_ITEM;
     if (h->level[i] != q->level) return WRONG_LEVEL;
+    if (q->value == 0) return BLANK_SHEET;
     if (is_signalled(h, me)) return SIGNALLED;
     if (h->certified[me]) return WRONG_TIME;
     if (h->version[i] == UINT32_MAX) return VERSIONS_SPENT;

@@ -26,6 +26,7 @@ enum number {
     TICKETS_SPENT = 12,
     ITEM_COUNT = 13,
     LEVEL_BYTE = 14,
+    BLANK_SHEET = 15,
     NUMBERS
 };
 

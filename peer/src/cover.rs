@@ -1,6 +1,6 @@
-//! Which replies the generated inputs meet: all that document 01 lets a run reach must be there.
+//! Which replies the generated inputs meet: all that the rules let a run reach must be there.
 
-use crate::desk::{Desk, Place, Standing};
+use crate::desk::{Desk, Place, Refusal, Standing};
 use crate::generator;
 use crate::progress::Progress;
 use crate::run::Run;
@@ -13,16 +13,16 @@ const ROWS: usize = 8;
 const ROW_NAMES: [&str; ROWS] =
     ["begin", "read", "write", "certify", "commit", "abort", "ask", "above 6"];
 /// Columns: the reply numbers that a request can get.
-const NUMBERS: [u8; 13] = [0, 1, 2, 3, 4, 5, 6, 7, 8, 9, 10, 11, 12];
+const NUMBERS: [u8; 14] = [0, 1, 2, 3, 4, 5, 6, 7, 8, 9, 10, 11, 12, 15];
 
-/// The numbers each operation can get in a run. A number is missing where its row in document
-/// 01's table names another operation, or a field that the operation does not have.
+/// The numbers each operation can get in a run. A number is missing where its row in the
+/// table names another operation, or a field that the operation does not have.
 const REACHABLE: [&[u8]; ROWS] = [
     // Begin names no transaction and no item (no 6, 7, 8, 2, 9) and takes no lock (no 1).
     &[0, 4, 5, 11],
     &[0, 1, 2, 4, 5, 6, 7, 8, 9],
     // Write uses every field, so none is left to be 5.
-    &[0, 1, 2, 4, 6, 7, 8, 9],
+    &[0, 1, 2, 4, 6, 7, 8, 9, 15],
     // Certify, commit, abort and ask name no item (no 7, 8).
     &[0, 1, 2, 4, 5, 6, 9],
     // A commit is never delayed: its locks were settled by the certify.
@@ -34,7 +34,7 @@ const REACHABLE: [&[u8]; ROWS] = [
     &[3],
 ];
 
-/// Possible by document 01, but no run on the wire gets there in practice.
+/// Possible by the rules, but no run on the wire gets there in practice.
 const OUT_OF_REACH: [(Operation, u8, &str); 2] = [
     (Operation::Write, 10, "takes 4,294,967,295 commits of writes to one item"),
     (Operation::Begin, 12, "takes 4,294,967,295 begins at one level"),
@@ -48,10 +48,13 @@ struct Counts {
     replies: [[u64; NUMBERS.len()]; ROWS],
     /// By operation and standing of the transaction that the request names.
     standings: [[u64; STANDINGS.len()]; ROWS],
+    /// Writes of 0, by what the same write of 1 is answered: 15 comes behind some of these numbers
+    /// and before the others.
+    blank: [u64; NUMBERS.len()],
     opened: u64,
     refused_13: u64,
     refused_14: u64,
-    /// Replies that no reading of document 01 allows.
+    /// Replies that no reading of the rules allows.
     strange: u64,
 }
 
@@ -75,6 +78,7 @@ impl Counts {
         while let Some((bytes, rest)) = requests.split_first_chunk::<REQUEST_BYTES>() {
             let request = Request::from_bytes(bytes);
             self.note_standing(run.desk(), &request);
+            self.note_blank(run.desk(), &request);
             self.note_reply(&run.feed(bytes));
             requests = rest;
         }
@@ -85,6 +89,16 @@ impl Counts {
         if let Ok(place) = desk.find(request.level, request.ticket) {
             let row = usize::from(request.operation).min(ROWS - 1);
             self.standings[row][standing(&desk.places[place])] += 1;
+        }
+    }
+
+    fn note_blank(&mut self, desk: Option<&Desk>, request: &Request) {
+        let is_blank = request.operation == Operation::Write.number() && request.value == 0;
+        let Some(desk) = desk.filter(|_| is_blank) else { return };
+        let otherwise = desk.clone().answer(&Request { value: 1, ..*request });
+        match column(otherwise.number) {
+            Some(column) => self.blank[column] += 1,
+            None => self.strange += 1,
         }
     }
 
@@ -118,6 +132,9 @@ impl Counts {
                 faults.push(format!("no {} came from a transaction {name}", operation.name()));
             }
         }
+        for (number, _) in self.blank_writes().filter(|(_, count)| *count == 0) {
+            faults.push(format!("no write of 0 came that would be answered {number} without it"));
+        }
         let openings = [
             ("opened", self.opened),
             ("refused 13", self.refused_13),
@@ -130,6 +147,14 @@ impl Counts {
             faults.push(format!("{} replies have a number nobody may give", self.strange));
         }
         faults
+    }
+
+    /// The writes of 0 by every answer that a write may get instead.
+    fn blank_writes(&self) -> impl Iterator<Item = (u8, u64)> {
+        let row = REACHABLE[usize::from(Operation::Write.number())];
+        let blank = Refusal::BlankSheet.number();
+        let others = NUMBERS.into_iter().zip(self.blank);
+        others.filter(move |(number, _)| *number != blank && row.contains(number))
     }
 
     fn print(&self, out: &mut impl Write) -> io::Result<()> {
@@ -156,6 +181,9 @@ impl Counts {
         for (operation, number, why) in OUT_OF_REACH {
             writeln!(out, "far: {} answered {number} {why}", operation.name())?;
         }
+        let blank: Vec<String> =
+            self.blank_writes().map(|(number, count)| format!("{number} {count}")).collect();
+        writeln!(out, "\nwrites of 0 by the answer to the same write of 1: {}", blank.join("; "))?;
         writeln!(out, "\nrequests by operation and standing of the transaction named")?;
         for operation in Operation::ALL.into_iter().filter(|operation| operation.uses_ticket()) {
             let counts = self.standings[usize::from(operation.number())];

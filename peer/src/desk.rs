@@ -1,4 +1,5 @@
-//! The desk: the house of document 01 and its rules, written as plainly as they stand there.
+//! The desk: the house of document 01 and its rules, with the change requests that have landed
+//! (CR 1), written as plainly as they stand there.
 
 use crate::wire::{Operation, Reply, Request};
 use std::collections::BTreeMap;
@@ -27,6 +28,7 @@ pub enum Refusal {
     TicketsSpent = 12,
     ItemCount = 13,
     LevelByte = 14,
+    BlankSheet = 15,
 }
 
 impl Refusal {
@@ -133,7 +135,7 @@ impl Desk {
     }
 
     /// The checks of every request come first (3, 4, 5); each operation goes on in the order
-    /// 6, 7, 8, 2, 9, 10, 11, 12, 1 with those that concern it.
+    /// 6, 7, 8, 15, 2, 9, 10, 11, 12, 1 with those that concern it.
     fn serve(&mut self, request: &Request) -> Result<Reply, Refusal> {
         let operation =
             Operation::from_number(request.operation).ok_or(Refusal::NoSuchOperation)?;
@@ -181,7 +183,7 @@ impl Desk {
         if self.others(me).any(|other| other.cell(number).certify) {
             return Err(Refusal::Delayed);
         }
-        // The lock decides whose value is read, not the pending value: a written 0 is a value.
+        // The lock decides whose value is read, not the pending value.
         let (value, version) = if self.places[me].cell(number).write {
             (item.pending, item.version.saturating_add(1))
         } else {
@@ -197,6 +199,9 @@ impl Desk {
         let item = self.items.get(number).ok_or(Refusal::NoItem)?;
         if item.level != request.level {
             return Err(Refusal::WrongLevel);
+        }
+        if request.value == 0 {
+            return Err(Refusal::BlankSheet);
         }
         self.check_unsignalled(me)?;
         self.check_standing(me, Standing::Active)?;

@@ -1,5 +1,5 @@
-//! The peer: a second desk, written from document 01 alone, and the checks that hold another
-//! program against it.
+//! The peer: a second desk, written from document 01 and the change requests alone, and the checks
+//! that hold another program against it.
 
 mod compare;
 mod converse;
@@ -29,7 +29,7 @@ use stop::Stop;
 const MOST_REQUESTS: u64 = 10_000_000;
 
 const HELP: &str = "\
-The peer: a second desk, written from document 01 alone.
+The peer: a second desk, written from document 01 and the change requests alone.
 
 usage: peer COMMAND
 
@@ -50,8 +50,8 @@ usage: peer COMMAND
                                  every byte and word must be as the guide says
   guide --write FILE [PROGRAM]   write the guide with each recipe's transcript made anew, to
                                  standard output, which must not be FILE itself
-  slip K                         run, with slip K of document 01 (1 to 6) made on purpose,
-                                 to see that the checks can fail
+  slip K                         run, with slip K (1, 2 ..) made on purpose, to see that the
+                                 checks can fail
   help                           this text
 
 PROGRAM is a path, or a path and arguments in one word: 'target/release/peer run'. It has to

@@ -1,17 +1,21 @@
-//! The slips the trade has made (document 01), made here on purpose: a desk that behaves but for
-//! one slip. The checks must find each of them, or they are not worth running.
+//! The slips the trade has made (document 01) and those that the change requests invite, made here
+//! on purpose: a desk that behaves but for one slip. The checks must find each of them, or they are
+//! not worth running.
 
 use crate::desk::{Desk, Place, Refusal, Standing};
 use crate::run::Answer;
 use crate::wire::{Operation, Reply, Request};
 
-pub const SLIPS: [(&str, Answer); 6] = [
+pub const SLIPS: [(&str, Answer); 9] = [
     ("tells the certifier how many readers were signalled", tells_count),
     ("delays a certify for a reader above", delays_for_reader_above),
     ("counts a transaction's own read lock against its certify", counts_own_read),
     ("converts the free items of a certify and leaves the rest", converts_free_items),
     ("gives an ended transaction's ticket again", gives_old_ticket),
     ("lets a certified transaction commit after it was signalled", commits_when_signalled),
+    ("takes a blank sheet", takes_blank),
+    ("tells of a blank sheet before it looks whose item it is", tells_blank_early),
+    ("tells of a blank sheet only where nothing else is wrong", tells_blank_late),
 ];
 
 fn is(request: &Request, operation: Operation) -> bool {
@@ -111,5 +115,44 @@ fn commits_when_signalled(desk: &mut Desk, request: &Request) -> Reply {
             desk.answer(request)
         }
         _ => reply,
+    }
+}
+
+/// What the same write would be answered with a sheet in the place of 0.
+fn answer_with_sheet(desk: &mut Desk, request: &Request) -> Reply {
+    desk.answer(&Request { value: 1, ..*request })
+}
+
+fn takes_blank(desk: &mut Desk, request: &Request) -> Reply {
+    let reply = desk.answer(request);
+    if reply.number != Refusal::BlankSheet.number() {
+        return reply;
+    }
+    let reply = answer_with_sheet(desk, request);
+    if reply.number == 0 {
+        desk.items[usize::from(request.item)].pending = 0;
+    }
+    reply
+}
+
+fn tells_blank_early(desk: &mut Desk, request: &Request) -> Reply {
+    let reply = desk.answer(request);
+    let is_forbidden = reply.number == Refusal::WrongLevel.number();
+    if is(request, Operation::Write) && request.value == 0 && is_forbidden {
+        return Reply { number: Refusal::BlankSheet.number(), ..reply };
+    }
+    reply
+}
+
+fn tells_blank_late(desk: &mut Desk, request: &Request) -> Reply {
+    let reply = desk.answer(request);
+    if reply.number != Refusal::BlankSheet.number() {
+        return reply;
+    }
+    let otherwise = answer_with_sheet(&mut desk.clone(), request);
+    if otherwise.number == 0 {
+        reply
+    } else {
+        otherwise
     }
 }

@@ -60,7 +60,7 @@ fn conflict(operation: Option<Operation>) -> &'static str {
     }
 }
 
-/// The reasons of document 01's table, put for the operation at hand where it names several.
+/// The reasons of the table of numbers, put for the operation at hand where it names several.
 fn reason(number: u8, operation: Option<Operation>) -> &'static str {
     match (number, operation) {
         (2, _) => "the transaction is signalled: an item it read is changing below it",
@@ -78,7 +78,8 @@ fn reason(number: u8, operation: Option<Operation>) -> &'static str {
         (12, _) => "no ticket is left at the level",
         (13, _) => "opening: not 1 to 64 items, or the levels were cut short",
         (14, _) => "opening: a level byte above 3",
-        _ => "a number that document 01 does not have",
+        (15, _) => "write of a blank sheet: the value is 0",
+        _ => "a number that the table does not have",
     }
 }
 
@@ -250,7 +251,7 @@ mod tests {
             for operation in 0..=255 {
                 let words = reply(&Reply { number, operation, ..Reply::default() });
                 let known = !words.contains("does not have");
-                assert_eq!(known, number <= 14, "{words}");
+                assert_eq!(known, number <= 15, "{words}");
             }
         }
     }

@@ -17,7 +17,7 @@ use Rattle.house.specs.declared.Request.{Request}
 use Rattle.house.specs.Search.{any, nobody, anyOf, distinct}
 use Rattle.house.specs.Cell.{holds}
 use Rattle.house.specs.Checks.{foremost, someApplies, testOf, before}
-use Rattle.house.specs.Rules.{asker, noLevel, usesItem, unusedSet, unknown, noItem, forbidden, stopped, untimely, wornOut, crowded, ticketless, delayed, refusals, checks, verdict, waitsAt}
+use Rattle.house.specs.Rules.{asker, noLevel, usesItem, unusedSet, unknown, noItem, forbidden, blankSheet, stopped, untimely, wornOut, crowded, ticketless, delayed, refusals, checks, verdict, waitsAt}
 use Rattle.house.proofs.Tests.{is, clash, and-true, and-right-false, and-no, or-false, not-of}
 use Rattle.house.proofs.Operations.{OperationOf, operation-of}
 use Rattle.house.proofs.Searches.{scan-same, any-none}
@@ -103,6 +103,7 @@ pub record Clear (h : House) (q : Request) : Type 0 where
   pub known : unknown h q ≡ false
   pub present : noItem h q ≡ false
   pub allowed : forbidden h q ≡ false
+  pub drawn : blankSheet q ≡ false
   pub unstopped : stopped h q ≡ false
   pub timely : untimely h q ≡ false
   pub fresh : wornOut h q ≡ false
@@ -125,6 +126,7 @@ clear h q e =
       known = past 6;
       present = past 7;
       allowed = past 8;
+      drawn = past 15;
       unstopped = past 2;
       timely = past 9;
       fresh = past 10;

@@ -5,13 +5,13 @@ use Rattle.house.specs.Search.{scan, mapFrom}
 use Rattle.house.specs.Cell.{has, marked, unmarked, cellAt, withMark, mapCells, holds, anotherHolds, otherHolds, peerHolds, isSignalled, firstSignalled, countSignalled}
 use Rattle.house.specs.Matrix.{readLock}
 use Rattle.house.specs.House.{dominates, above, fixed, freeAt, hasTicket, seek, vacancy}
-use Rattle.house.specs.Rules.{noOperation, noLevel, unusedSet, unknown, noItem, forbidden, stopped, untimely, wornOut, crowded, ticketless, waitsAt, conflict, delayed, refusals, checks, verdict, ticketAfter, grown, begun, readBy, readAnswer, writtenBy, signalledCell, convertedCell, certifiedCell, certifiedBy, droppedPending, clearedCell, left, committedItem, askAnswer, served, performed, stepped}
+use Rattle.house.specs.Rules.{noOperation, noLevel, unusedSet, unknown, noItem, forbidden, blankSheet, stopped, untimely, wornOut, crowded, ticketless, waitsAt, conflict, delayed, refusals, checks, verdict, ticketAfter, grown, begun, readBy, readAnswer, writtenBy, signalledCell, convertedCell, certifiedCell, certifiedBy, droppedPending, clearedCell, left, committedItem, askAnswer, served, performed, stepped}
 use Rattle.house.specs.Opening.{wrongLength, highAt, wrongLevel, openVerdict, rowAt, rows, opened, opening}
 use Rattle.house.specs.Run.{finally, replies, trace}
 
 -- the list of the checks, and the test of each
 unfoldable pub tests : Unit {0}
-unfolding refusals checks noOperation noLevel unusedSet unknown noItem forbidden stopped untimely wornOut crowded ticketless conflict delayed
+unfolding refusals checks noOperation noLevel unusedSet unknown noItem forbidden blankSheet stopped untimely wornOut crowded ticketless conflict delayed
 tests = tt
 
 -- the searches, the cells and the tests that these are made of

@@ -1,5 +1,6 @@
 -- The rules of the desk: which number a request gets, what a done request changes, and what it is answered.
--- In document 01's words and order. Every definition is total: it speaks of every house value and every request.
+-- In document 01's words and order, and in those of the change requests (CR 1 ..) where they amend it. Every definition is
+-- total: it speaks of every house value and every request.
 -- Assumes nothing.
 use Prim.Native.Nat.{ℕ, _+_}
 use mathlib.Core.Bool.{Bool, false, _&&_, _||_, not, cond}
@@ -89,6 +90,10 @@ forbidden h q =
     (cond (q does write) (not (eqb level (q .level)))
     false)
 
+-- 15: "0 marks an unsaved layer. A write of value 0 gets 15" (CR 1)
+unfoldable pub blankSheet : Request → Bool
+blankSheet q = q does write && eqb (q .value) 0
+
 -- 2: "the transaction has a signalled cell (read, write, certify, commit)"
 unfoldable pub stopped : House → Request → Bool
 stopped h q = (q does read || q does write || q does certify || q does commit) && ifFound (asker h q) (isSignalled (h .cells)) false
@@ -130,7 +135,7 @@ conflict cells q me =
 unfoldable pub delayed : House → Request → Bool
 delayed h q = ifFound (asker h q) (conflict (h .cells) q) false
 
--- "Order of checks: 3, 4, 5, 6, 7, 8, 2, 9, 10, 11, 12, 1." First the refusals
+-- "Order of checks: 3, 4, 5, 6, 7, 8, 2, 9, 10, 11, 12, 1", with 15 "after 8 and before 2" (CR 1). First the refusals
 unfoldable pub refusals : House → Request → List (ℕ × Bool)
 refusals h q =
     (3, noOperation q)
@@ -139,6 +144,7 @@ refusals h q =
     ∷ (6, unknown h q)
     ∷ (7, noItem h q)
     ∷ (8, forbidden h q)
+    ∷ (15, blankSheet q)
     ∷ (2, stopped h q)
     ∷ (9, untimely h q)
     ∷ (10, wornOut h q)

@@ -168,6 +168,9 @@ fn judge_write(case: Case, cells: &[u8; 2048]) -> Ruling
     if x.level != q.level {
         return refuse(8);
     }
+    if q.value == 0 {
+        return refuse(15);
+    }
     if is_signalled(cells, writer) {
         return refuse(2);
     }

@@ -17,7 +17,7 @@ use Rattle.house.specs.House.{blank, itemAt, pendingAt, placeAt, nextAt, isFree
 use Rattle.house.specs.Rules.{ticketAfter, begun, readBy, writtenBy, certifiedBy, left, committedBy, abortedBy}
 use Rattle.house.specs.Run.{finally}
 use Rattle.house.proofs.Tests.{is, same, clash}
-use Rattle.house.proofs.Effects.{begun-place, begun-next, certified-place, certified-cell, left-place, begun-next-other, read-cell-other, written-cell-other, written-pending-other}
+use Rattle.house.proofs.Effects.{begun-place, begun-next, certified-place, certified-cell, left-place, begun-next-other, read-cell-other, written-cell-other, written-pending, written-pending-other}
 use Rattle.reach.specs.Kept.{Open, wrote, Kept, StepKeeps}
 use Rattle.reach.proofs.Law.{held, Law, Frame, Own, clear-has, clear-held, same-count, same-level, held-kept, lawful}
 use Rattle.reach.proofs.Turns.{MayBegin, MayRead, MayWrite, MayCertify, Turn, refused, waits, begins, reads, writes, certifies, commits, aborts, asks, turn}
@@ -29,6 +29,7 @@ pub record Tidy (h : House) : Type 0 where
   pub levels : (i : ℕ) → i < 64 → itemAt (h .items) i .level < 4
   pub rows : (i : ℕ) → i < 64 → h .count ≤ i → itemAt (h .items) i ≡ blank
   pub pending : (i : ℕ) → i < 64 → ((p : ℕ) → p < 32 → held (cellAt (h .cells) p i) ≡ false) → pendingAt (h .pending) i ≡ 0
+  pub drawn : (p i : ℕ) → p < 32 → i < 64 → held (cellAt (h .cells) p i) ≡ true → pendingAt (h .pending) i ≢ 0
   pub ticketless : (p : ℕ) → p < 32 → isFree (placeAt (h .places) p .standing) ≡ true → placeAt (h .places) p .ticket ≡ 0
   pub named : (p : ℕ) → p < 32 → Open h p → placeAt (h .places) p .ticket ≢ 0
   pub next : (l : ℕ) → l < 4 → nextAt (h .next) l ≤ 4294967295
@@ -43,6 +44,7 @@ kept L T =
       levels = T .levels;
       rows = λ i a c. (T .rows i a c, T .pending i a (λ p b. clear-held _ (T .inside p i b a c)));
       pending = T .pending;
+      drawn = T .drawn;
       ticketless = T .ticketless;
       named = T .named;
       apart = L .apart;
@@ -90,6 +92,7 @@ kept-tidy K =
       levels = K .levels;
       rows = λ i a c. K .rows i a c .0;
       pending = K .pending;
+      drawn = K .drawn;
       ticketless = K .ticketless;
       named = K .named;
       next = K .next;
@@ -102,6 +105,8 @@ record Neat (h h′ : House) (me : ℕ) : Type 0 where
   rows : (i : ℕ) → i < 64 → h .count ≤ i → itemAt (h′ .items) i ≡ itemAt (h .items) i
   -- what I do not hold afterwards has no pending value, or I did not hold it before either and its pending value stays
   pending : (i : ℕ) → i < 64 → held (cellAt (h′ .cells) me i) ≡ false → (pendingAt (h′ .pending) i ≡ 0) ⊎ ((held (cellAt (h .cells) me i) ≡ false) × (pendingAt (h′ .pending) i ≡ pendingAt (h .pending) i))
+  -- what I hold afterwards has one
+  drawn : (i : ℕ) → i < 64 → held (cellAt (h′ .cells) me i) ≡ true → pendingAt (h′ .pending) i ≢ 0
   ticketless : isFree (placeAt (h′ .places) me .standing) ≡ true → placeAt (h′ .places) me .ticket ≡ 0
   named : Open h′ me → placeAt (h′ .places) me .ticket ≢ 0
   next : (l : ℕ) → l < 4 → nextAt (h′ .next) l ≤ 4294967295
@@ -117,6 +122,11 @@ tidied {h} {h′} {me} L F m T N =
           elim (N .pending i a (none me m)) [
             | inl z ↦ z
             | inr k ↦ k .1 ∙ T .pending i a (λ p b. elim (same p me) [ inl e ↦ rw e (k .0) | inr n ↦ sym (held-kept L F p i b a n) ∙ none p b ])
+          ];
+      drawn = λ p i b a w.
+          elim (same p me) [
+            | inl e ↦ N .drawn i a (rw e at w)
+            | inr n ↦ let w′ = sym (held-kept L F p i b a n) ∙ w in rw (F .item p i b a n w′ .1) (T .drawn p i b a w′)
           ];
       ticketless = λ p b f. elim (same p me) [ inl e ↦ rw e (N .ticketless (rw e at f)) | inr n ↦ rw (F .place p b n) (T .ticketless p b (rw (F .place p b n) at f)) ];
       named = λ p b o. elim (same p me) [ inl e ↦ rw e (N .named (rw e at o)) | inr n ↦ rw (F .place p b n) (T .named p b (rw (F .place p b n) at o)) ];
@@ -139,6 +149,7 @@ module _ {h : House} {l me : ℕ} (L : Law h) (T : Tidy h) (K : MayBegin h l me)
       record {
         rows = λ i a c. refl;
         pending = λ i a g. inr (g, refl);
+        drawn = λ i a w. clash w (clear-held _ (begin-clear L K i a));
         ticketless = λ f. clash f (rw here);
         named = λ o. rw here (K .ticket);
         next = λ k b. elim (same k l) [ inl e ↦ rw (e, begun-next (L .sizes) l me (K .level)) (after-small _) | inr n ↦ rw (begun-next-other h l me k n) (T .next k b) ];
@@ -153,6 +164,7 @@ module _ {h : House} {me i : ℕ} (L : Law h) (T : Tidy h) (K : MayRead h me i) 
       record {
         rows = λ j a c. refl;
         pending = λ j a g. inr (sym (read-held L K j a) ∙ g, refl);
+        drawn = λ j a w. T .drawn me j (K .place) a (sym (read-held L K j a) ∙ w);
         ticketless = T .ticketless me (K .place);
         named = T .named me (K .place);
         next = T .next;
@@ -171,6 +183,11 @@ module _ {h : House} {me i v : ℕ} (L : Law h) (T : Tidy h) (K : MayWrite h me 
               | inl e ↦ clash (write-holds L K) (rw e at g)
               | inr n ↦ inr (sym (write-held L K j a n) ∙ g, written-pending-other h me i v j n)
             ];
+        drawn = λ j a w.
+            elim (same j i) [
+              | inl e ↦ rw (e, written-pending (L .sizes) me i v (K .row)) (K .drawn)
+              | inr n ↦ rw (written-pending-other h me i v j n) (T .drawn me j (K .place) a (sym (write-held L K j a n) ∙ w))
+            ];
         ticketless = T .ticketless me (K .place);
         named = T .named me (K .place);
         next = T .next;
@@ -187,6 +204,7 @@ module _ {h : House} {me : ℕ} (L : Law h) (T : Tidy h) (K : MayCertify h me) w
       record {
         rows = λ i a c. refl;
         pending = λ i a g. inr (sym (certify-held L K i a) ∙ g, refl);
+        drawn = λ i a w. T .drawn me i m a (sym (certify-held L K i a) ∙ w);
         ticketless = λ f. clash f (rw here);
         named = λ o. rw here (T .named me m (rw (K .active)));
         next = T .next;
@@ -203,6 +221,7 @@ module _ {h : House} {me : ℕ} (L : Law h) (T : Tidy h) (m : me < 32) where
       record {
         rows = λ i a c. refl;
         pending = λ i a g. elim (is (held (cellAt (h .cells) me i))) [ inl y ↦ inl (left-dropped L m i a y) | inr y ↦ inr (y, left-stays L m i a y) ];
+        drawn = λ i a w. clash w (clear-held _ (left-mine L m i a));
         ticketless = λ e. rw (left-place (L .sizes) me m);
         named = λ o. clash (freed L m) o;
         next = T .next;
@@ -215,6 +234,7 @@ module _ {h : House} {me : ℕ} (L : Law h) (T : Tidy h) (m : me < 32) where
       record {
         rows = λ i a c. committed-row L m i a (clear-has Certify _ (T .inside me i m a c));
         pending = N .pending;
+        drawn = N .drawn;
         ticketless = N .ticketless;
         named = N .named;
         next = N .next;

@@ -8,4 +8,5 @@ pub mod Delay
 pub mod Decides
 pub mod Answers
 pub mod Replies
+pub mod Sheets
 pub mod Tickets

@@ -17,7 +17,7 @@ use Rattle.house.proofs.Searches.{any-none}
 use Rattle.house.proofs.Checks.{none-applies, test-fails}
 use Rattle.house.proofs.Openings.{opened-sizes, opened-item, opened-pending, opened-place, opened-cell, opened-next}
 use Rattle.reach.specs.Kept.{Kept, OpeningHas, ReachableHas}
-use Rattle.reach.proofs.Law.{clear-law}
+use Rattle.reach.proofs.Law.{clear-held, clear-law}
 use Rattle.reach.proofs.Kept.{kept, finally-keeps}
 
 -- levels that get neither 13 nor 14
@@ -56,6 +56,7 @@ opened-kept levels few low =
       levels = λ i a. rw (opened-item levels i a) (low-all i);
       rows = λ i a c. rw (opened-item levels i a, List·getD-eq-default levels 0 {n = i} c);
       pending = λ i a none. opened-pending levels i a;
+      drawn = λ p i b a w. clash w (clear-held _ (opened-cell levels p i b a));
       ticketless = λ p b f. rw (opened-place levels p b);
       named = λ p b o. clash (opened-free levels p b) o;
       next = λ l b. rw (opened-next levels l b) (omega arith);

@@ -19,7 +19,7 @@ use Rattle.house.specs.Search.{ifFound}
 use Rattle.house.specs.Cell.{has, cellAt, holds, otherHolds, isSignalled}
 use Rattle.house.specs.House.{dominates, levelOf, itemAt, placeAt, nextAt, isFree, isCertified, vacancy}
 use Rattle.house.specs.Checks.{foremost}
-use Rattle.house.specs.Rules.{begin, asker, forbidden, stopped, untimely, wornOut, crowded, ticketless, waitsAt, conflict, delayed, refusals, verdict, begun, readBy, readFor, writtenBy, certifiedBy, committedBy, abortedBy, askAnswer, outcome, served, performed, stepped}
+use Rattle.house.specs.Rules.{begin, asker, forbidden, blankSheet, stopped, untimely, wornOut, crowded, ticketless, waitsAt, conflict, delayed, refusals, verdict, begun, readBy, readFor, writtenBy, certifiedBy, committedBy, abortedBy, askAnswer, outcome, served, performed, stepped}
 use Rattle.house.proofs.Operations.{is-begin, is-read, is-write, is-certify, is-commit, is-abort, is-ask, not-begin}
 use Rattle.house.proofs.Tests.{is, same, clash, or-false, and-right-false, not-is}
 use Rattle.house.proofs.Searches.{any-none}
@@ -52,6 +52,7 @@ pub record MayWrite (h : House) (me i v : ℕ) : Type 0 where
   pub item : i < h .count
   pub active : placeAt (h .places) me .standing ≡ Active
   pub mine : itemAt (h .items) i .level ≡ levelOf me
+  pub drawn : v ≢ 0
   pub room : itemAt (h .items) i .version < 4294967295
   pub uncontested : (p : ℕ) → p < 32 → p ≢ me → held (cellAt (h .cells) p i) ≡ false
 
@@ -140,7 +141,7 @@ module _ (h : House) (q : Request) (z : foremost (refusals h q) ≡ 0) where
         }
 
     may-write : q .operation ≡ 2 → MayWrite h me (q .item) (q .value)
-    unfolding forbidden untimely wornOut delayed conflict held
+    unfolding forbidden blankSheet untimely wornOut delayed conflict held
     may-write o =
         let i = item-there h q (rw o) (c .present) in
         let n = or-false (otherHolds (h .cells) Write me (q .item)) (otherHolds (h .cells) Certify me (q .item)) (rw (o, A .at) at undelayed) in
@@ -150,6 +151,7 @@ module _ (h : House) (q : Request) (z : foremost (refusals h q) ≡ 0) where
           item = i .0;
           active = still-active (rw (o, A .at) at (c .timely));
           mine = eqb-true _ _ (not-is _ (rw o at (c .allowed))) ∙ sym (A .seated .within .level);
+          drawn = eqb-false _ 0 (rw o at (c .drawn));
           room = leb-false 4294967295 (itemAt (h .items) (q .item) .version) (rw o at (c .fresh));
           uncontested = λ p b d. rw (other-none (h .cells) Write me (q .item) (n .0) p b d) (other-none (h .cells) Certify me (q .item) (n .1) p b d);
         }

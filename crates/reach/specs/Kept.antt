@@ -39,6 +39,8 @@ pub record Kept (h : House) : Type 0 where
   pub rows : (i : ℕ) → i < 64 → h .count ≤ i → (itemAt (h .items) i ≡ blank) × (pendingAt (h .pending) i ≡ 0)
   -- the pending value is 0 when nobody has written
   pub pending : (i : ℕ) → i < 64 → ((p : ℕ) → p < 32 → wrote (h .cells) p i ≡ false) → pendingAt (h .pending) i ≡ 0
+  -- and not 0 when somebody has: what is written is no blank sheet
+  pub drawn : (p i : ℕ) → p < 32 → i < 64 → wrote (h .cells) p i ≡ true → pendingAt (h .pending) i ≢ 0
   -- THE PLACES
   -- a free place has ticket 0
   pub ticketless : (p : ℕ) → p < 32 → isFree (placeAt (h .places) p .standing) ≡ true → placeAt (h .places) p .ticket ≡ 0

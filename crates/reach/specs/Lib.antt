@@ -5,4 +5,5 @@ pub mod Delay
 pub mod Decides
 pub mod Answers
 pub mod Replies
+pub mod Sheets
 pub mod Tickets

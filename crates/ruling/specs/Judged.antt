@@ -66,6 +66,7 @@ writeChecks c cells =
     let i = c .request .item in
     (7, leb (c .count) i || leb 64 i)
     ∷ (8, not (eqb (c .row .level) (c .request .level)))
+    ∷ (15, eqb (c .request .value) 0)
     ∷ (2, isSignalled cells (c .me))
     ∷ (9, isCertified (c .seat .standing))
     ∷ (10, leb 4294967295 (c .row .version))

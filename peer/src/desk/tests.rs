@@ -162,13 +162,29 @@ fn tickets_can_be_spent() {
 }
 
 #[test]
-fn a_written_0_is_a_value() {
+fn an_own_read_lock_is_no_conflict() {
     let mut desk = house();
-    assert_eq!(write(&mut desk, 0, 1, 0, 0), 0);
+    assert_eq!(write(&mut desk, 0, 1, 0, 7), 0);
     assert_eq!(read(&mut desk, 0, 1, 0).version, 1);
-    assert_eq!(plain(&mut desk, Operation::Certify, 0, 1), 0, "its own read lock is no conflict");
+    assert_eq!(plain(&mut desk, Operation::Certify, 0, 1), 0);
     assert_eq!(plain(&mut desk, Operation::Commit, 0, 1), 0);
     assert_eq!(desk.items[0].version, 1);
+}
+
+#[test]
+fn no_blank_sheets() {
+    let mut desk = house();
+    assert_eq!(read(&mut desk, 0, 1, 0).value, 0, "an opened item may hold 0");
+    assert_eq!(write(&mut desk, 0, 1, 0, 0), 15);
+    assert_eq!(write(&mut desk, 0, 1, 3, 0), 7, "7 is checked before 15");
+    assert_eq!(write(&mut desk, 0, 1, 2, 0), 8, "8 is checked before 15");
+    assert_eq!(write(&mut desk, 0, 2, 0, 7), 0);
+    assert_eq!(write(&mut desk, 0, 1, 0, 0), 15, "15 is checked before 1");
+    desk.items[1].version = u32::MAX;
+    assert_eq!(write(&mut desk, 0, 1, 1, 0), 15, "15 is checked before 10");
+    assert_eq!(plain(&mut desk, Operation::Certify, 0, 1), 0);
+    assert_eq!(write(&mut desk, 0, 1, 1, 0), 15, "15 is checked before 9");
+    assert_eq!(write(&mut after_m11(), 2, 1, 2, 0), 15, "15 is checked before 2");
 }
 
 #[test]
@@ -196,7 +212,8 @@ fn check_house(desk: &Desk) {
         let holds = |place: &&Place| place.cell(number).write || place.cell(number).certify;
         let writers: Vec<&Place> = desk.places.iter().filter(holds).collect();
         assert!(writers.len() <= 1, "item {number} has two writers");
-        assert!(!writers.is_empty() || item.pending == 0, "item {number} has a stray value");
+        assert_eq!(writers.is_empty(), item.pending == 0, "item {number}: a stray or blank value");
+        assert_eq!(item.value == 0, item.version == 0, "item {number}: a blank sheet was saved");
     }
     for place in desk.places.iter().filter(|place| !place.is_taken()) {
         assert_eq!(*place, Place::free(place.level));

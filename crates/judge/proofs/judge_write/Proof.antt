@@ -27,9 +27,6 @@ returns-2 : tie.Need-returns-2
 unfolding writeRuled
 returns-2 c = search followed depth 20
 
-is-signalled-requires : tie.Need-is-signalled-requires
-is-signalled-requires c κs = search needs
-
 refuse-requires-3 : tie.Need-refuse-requires-3
 refuse-requires-3 c κs = search needs
 
@@ -37,8 +34,8 @@ returns-3 : tie.Need-returns-3
 unfolding writeRuled
 returns-3 c = search followed depth 20
 
-is-certified-requires : tie.Need-is-certified-requires
-is-certified-requires c κs = search needs
+is-signalled-requires : tie.Need-is-signalled-requires
+is-signalled-requires c κs = search needs
 
 refuse-requires-4 : tie.Need-refuse-requires-4
 refuse-requires-4 c κs = search needs
@@ -47,15 +44,15 @@ returns-4 : tie.Need-returns-4
 unfolding writeRuled
 returns-4 c = search followed depth 20
 
+is-certified-requires : tie.Need-is-certified-requires
+is-certified-requires c κs = search needs
+
 refuse-requires-5 : tie.Need-refuse-requires-5
 refuse-requires-5 c κs = search needs
 
 returns-5 : tie.Need-returns-5
 unfolding writeRuled
 returns-5 c = search followed depth 20
-
-other-claims-requires : tie.Need-other-claims-requires
-other-claims-requires c κs = search (needs, listed)
 
 refuse-requires-6 : tie.Need-refuse-requires-6
 refuse-requires-6 c κs = search needs
@@ -64,12 +61,22 @@ returns-6 : tie.Need-returns-6
 unfolding writeRuled
 returns-6 c = search followed depth 20
 
-allow-requires : tie.Need-allow-requires
-allow-requires c κs = search needs
+other-claims-requires : tie.Need-other-claims-requires
+other-claims-requires c κs = search (needs, listed)
+
+refuse-requires-7 : tie.Need-refuse-requires-7
+refuse-requires-7 c κs = search needs
 
 returns-7 : tie.Need-returns-7
 unfolding writeRuled
 returns-7 c = search followed depth 20
+
+allow-requires : tie.Need-allow-requires
+allow-requires c κs = search needs
+
+returns-8 : tie.Need-returns-8
+unfolding writeRuled
+returns-8 c = search followed depth 20
 
 pub judge-write-spec : {M : Type 1} → statement M
 judge-write-spec =
@@ -81,16 +88,18 @@ judge-write-spec =
     returns
     refuse-requires-2
     returns-2
-    is-signalled-requires
     refuse-requires-3
     returns-3
-    is-certified-requires
+    is-signalled-requires
     refuse-requires-4
     returns-4
+    is-certified-requires
     refuse-requires-5
     returns-5
-    other-claims-requires
     refuse-requires-6
     returns-6
+    other-claims-requires
+    refuse-requires-7
+    returns-7
     allow-requires
-    returns-7)
+    returns-8)
