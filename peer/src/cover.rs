@@ -93,9 +93,8 @@ impl Counts {
     }
 
     fn note_blank(&mut self, desk: Option<&Desk>, request: &Request) {
-        let is_blank = request.operation == Operation::Write.number() && request.value == 0;
-        let Some(desk) = desk.filter(|_| is_blank) else { return };
-        let otherwise = desk.clone().answer(&Request { value: 1, ..*request });
+        let Some(desk) = desk.filter(|_| request.is_blank_write()) else { return };
+        let otherwise = desk.clone().answer(&request.with_sheet());
         match column(otherwise.number) {
             Some(column) => self.blank[column] += 1,
             None => self.strange += 1,

@@ -18,10 +18,6 @@ pub const SLIPS: [(&str, Answer); 9] = [
     ("tells of a blank sheet only where nothing else is wrong", tells_blank_late),
 ];
 
-fn is(request: &Request, operation: Operation) -> bool {
-    request.operation == operation.number()
-}
-
 fn delayed(request: &Request) -> Reply {
     Reply { number: Refusal::Delayed.number(), ..Reply::repeating(request) }
 }
@@ -46,7 +42,7 @@ fn delay_certify_if(
     let written = written(desk, request);
     let reads_one = |place: &Place| written.iter().any(|&item| place.cell(item).read);
     let reply = desk.answer(request);
-    if is(request, Operation::Certify)
+    if request.is(Operation::Certify)
         && reply.number == 0
         && before.places.iter().any(|place| is_in_the_way(place) && reads_one(place))
     {
@@ -59,7 +55,7 @@ fn delay_certify_if(
 fn tells_count(desk: &mut Desk, request: &Request) -> Reply {
     let before = signals(desk);
     let reply = desk.answer(request);
-    if is(request, Operation::Certify) && reply.number == 0 {
+    if request.is(Operation::Certify) && reply.number == 0 {
         return Reply { value: (signals(desk) - before) as u32, ..reply };
     }
     reply
@@ -76,7 +72,7 @@ fn counts_own_read(desk: &mut Desk, request: &Request) -> Reply {
 
 fn converts_free_items(desk: &mut Desk, request: &Request) -> Reply {
     let reply = desk.answer(request);
-    if !is(request, Operation::Certify) || reply.number != Refusal::Delayed.number() {
+    if !request.is(Operation::Certify) || reply.number != Refusal::Delayed.number() {
         return reply;
     }
     let Ok(me) = desk.find(request.level, request.ticket) else {
@@ -97,7 +93,7 @@ fn converts_free_items(desk: &mut Desk, request: &Request) -> Reply {
 
 fn gives_old_ticket(desk: &mut Desk, request: &Request) -> Reply {
     let reply = desk.answer(request);
-    let ends = is(request, Operation::Commit) || is(request, Operation::Abort);
+    let ends = request.is(Operation::Commit) || request.is(Operation::Abort);
     if ends && reply.number == 0 {
         desk.next_ticket[usize::from(request.level)] = Some(request.ticket);
     }
@@ -106,7 +102,7 @@ fn gives_old_ticket(desk: &mut Desk, request: &Request) -> Reply {
 
 fn commits_when_signalled(desk: &mut Desk, request: &Request) -> Reply {
     let reply = desk.answer(request);
-    if !is(request, Operation::Commit) || reply.number != Refusal::Signalled.number() {
+    if !request.is(Operation::Commit) || reply.number != Refusal::Signalled.number() {
         return reply;
     }
     match desk.find(request.level, request.ticket) {
@@ -118,17 +114,12 @@ fn commits_when_signalled(desk: &mut Desk, request: &Request) -> Reply {
     }
 }
 
-/// What the same write would be answered with a sheet in the place of 0.
-fn answer_with_sheet(desk: &mut Desk, request: &Request) -> Reply {
-    desk.answer(&Request { value: 1, ..*request })
-}
-
 fn takes_blank(desk: &mut Desk, request: &Request) -> Reply {
     let reply = desk.answer(request);
     if reply.number != Refusal::BlankSheet.number() {
         return reply;
     }
-    let reply = answer_with_sheet(desk, request);
+    let reply = desk.answer(&request.with_sheet());
     if reply.number == 0 {
         desk.items[usize::from(request.item)].pending = 0;
     }
@@ -137,8 +128,7 @@ fn takes_blank(desk: &mut Desk, request: &Request) -> Reply {
 
 fn tells_blank_early(desk: &mut Desk, request: &Request) -> Reply {
     let reply = desk.answer(request);
-    let is_forbidden = reply.number == Refusal::WrongLevel.number();
-    if is(request, Operation::Write) && request.value == 0 && is_forbidden {
+    if request.is_blank_write() && reply.number == Refusal::WrongLevel.number() {
         return Reply { number: Refusal::BlankSheet.number(), ..reply };
     }
     reply
@@ -149,7 +139,7 @@ fn tells_blank_late(desk: &mut Desk, request: &Request) -> Reply {
     if reply.number != Refusal::BlankSheet.number() {
         return reply;
     }
-    let otherwise = answer_with_sheet(&mut desk.clone(), request);
+    let otherwise = desk.clone().answer(&request.with_sheet());
     if otherwise.number == 0 {
         reply
     } else {

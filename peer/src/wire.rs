@@ -87,6 +87,19 @@ impl Request {
         let [v0, v1, v2, v3] = self.value.to_le_bytes();
         [self.operation, self.level, i0, i1, t0, t1, t2, t3, v0, v1, v2, v3]
     }
+
+    pub fn is(&self, operation: Operation) -> bool {
+        self.operation == operation.number()
+    }
+
+    pub fn is_blank_write(&self) -> bool {
+        self.is(Operation::Write) && self.value == 0
+    }
+
+    /// The same request with the number of a sheet in its value field.
+    pub fn with_sheet(self) -> Request {
+        Request { value: 1, ..self }
+    }
 }
 
 #[derive(Clone, Copy, Debug, Default, PartialEq, Eq)]
