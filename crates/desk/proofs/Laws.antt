@@ -62,26 +62,39 @@ length-replyBytes : (r : Reply) → length (replyBytes r) ≡ 16
 unfolding replyBytes
 length-replyBytes r = refl
 
--- a reply is put byte by byte
-module _ (b : List ℕ) (at k : ℕ) (r : Reply) (x out : List ℕ) (is : x ≡ replyBytes r) (so : out ≡ paste b at x k) where
-  pub copied-in : at + 16 ≤ length b → k < 16 → set out (at + k) (getD x k 0) ≡ paste b at x (k + 1)
-  copied-in i l = let long : length x ≡ 16 = ap length is ∙ length-replyBytes r in copied b at x k so refl (omega arith) (omega arith)
+-- bytes are put one by one
+module _ (n : ℕ) (b : List ℕ) (at k : ℕ) (x out : List ℕ) (long : length x ≡ n) (so : out ≡ paste b at x k) where
+  pub copied-in : at + n ≤ length b → k < n → set out (at + k) (getD x k 0) ≡ paste b at x (k + 1)
+  copied-in i l = copied b at x k so refl (omega arith) (omega arith)
 
-  pub reply-copied : k ≤ 16 → 16 ≤ k → out ≡ paste b at (replyBytes r) 16
-  reply-copied l m = let whole : k ≡ 16 = omega arith in so ∙ rw (is, whole)
+  pub copied-whole : (y : List ℕ) → x ≡ y → k ≤ n → n ≤ k → out ≡ paste b at y n
+  copied-whole y is l m = let whole : k ≡ n = omega arith in so ∙ rw (is, whole)
 
-pub length-wired : (h : House) (n : ℕ) (b : List ℕ) → length (wired (replies h (requests n b))) ≡ n * 16
-unfolding wired replies requests
-length-wired h zero b = refl
-length-wired h (suc n) b =
-    let o = stepped h (requestAt b 0) in
-    length-append (replyBytes (o .reply)) (wired (replies (o .house) (requests n (drop 12 b))))
-    ∙ rw (length-replyBytes (o .reply), length-wired (o .house) n (drop 12 b)) (omega arith)
+-- the replies to any requests
+pub length-replied : (h : House) (qs : List Request) → length (wired (replies h qs)) ≡ length qs * 16
+unfolding wired replies
+length-replied h [] = refl
+length-replied h (q ∷ qs) =
+    let o = stepped h q in
+    length-append (replyBytes (o .reply)) (wired (replies (o .house) qs))
+    ∙ rw (length-replyBytes (o .reply), length-replied (o .house) qs) (omega arith)
 
-pub wired-append : (rs ss : List Reply) → wired (rs ++ ss) ≡ wired rs ++ wired ss
+wired-append : (rs ss : List Reply) → wired (rs ++ ss) ≡ wired rs ++ wired ss
 unfolding wired
 wired-append [] ss = refl
 wired-append (r ∷ rs) ss = ap (λ l. replyBytes r ++ l) (wired-append rs ss) ∙ sym (append-assoc (replyBytes r) (wired rs) (wired ss))
+
+pub replied-append : (h : House) (qs rs : List Request) → wired (replies h (qs ++ rs)) ≡ wired (replies h qs) ++ wired (replies (finally h qs) rs)
+replied-append h qs rs = ap wired (replies-append h qs rs) ∙ wired-append (replies h qs) (replies (finally h qs) rs)
+
+-- and to n of these bytes
+pub length-requests : (n : ℕ) (b : List ℕ) → length (requests n b) ≡ n
+unfolding requests
+length-requests zero b = refl
+length-requests (suc n) b = ap suc (length-requests n (drop 12 b))
+
+pub length-wired : (h : House) (n : ℕ) (b : List ℕ) → length (wired (replies h (requests n b))) ≡ n * 16
+length-wired h n b = length-replied h (requests n b) ∙ rw (length-requests n b)
 
 -- One request more: the n-th is read, and its step is taken
 module _ (h₀ : House) (input : List ℕ) (n : ℕ) (h : House) (q : Request) (o : Outcome) (is : o ≡ stepped h q) (so : h ≡ housed n h₀ input) (read : q ≡ requestAt input (n * 12)) where
@@ -105,7 +118,7 @@ module _ (h₀ : House) (input : List ℕ) (n : ℕ) (h : House) (q : Request) (
       let e : (n + 1) * 16 ≡ n * 16 + 16 = omega arith in
       p
       ∙ rw (w, stepping)
-      (rw (take-at W D (n * 16) long, past, requests-last n input, replies-append h₀ (requests n input) (nth ∷ []), wired-append (replies h₀ (requests n input)) (replies (housed n h₀ input) (nth ∷ [])), e))
+      (rw (take-at W D (n * 16) long, past, requests-last n input, replied-append h₀ (requests n input) (nth ∷ []), e))
 
 -- a turn has ended where as many are served as the count says
 module _ (h₀ : House) (input room : List ℕ) (most few count n : ℕ) (f : few ≡ min (length input / 12) (length room / 16)) (c : count ≡ min most few) (within : n ≤ count) (past : count ≤ n) where

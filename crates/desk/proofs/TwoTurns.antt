@@ -8,17 +8,17 @@ use lib.ListN.{length, getD, take, drop, length-append, length-drop, List·getD-
 use lib.Seq.{take-at, drop-at, drop-drop, drop-append-le}
 use Rattle.house.specs.declared.House.{House}
 use Rattle.house.specs.Run.{replies}
-use Rattle.house.proofs.Runs.{finally-append, replies-append}
+use Rattle.house.proofs.Runs.{finally-append}
 use Rattle.wire.specs.Wire.{requestAt}
 use Rattle.desk.specs.Turn.{requests, wired, share, housed, written, turned, answered}
 use Rattle.desk.specs.TwoTurns.{GoesOn, InParts}
-use Rattle.desk.proofs.Laws.{requests-add, length-wired, wired-append}
+use Rattle.desk.proofs.Laws.{requests-add, length-wired, replied-append}
 
 -- what is left for the second turn
 left12 : (x c : ℕ) → (x - c * 12) / 12 ≡ x / 12 - c
 left12 x c = omega arith
 
-left16 : (x c : ℕ) → (x - c * 16) / 16 ≡ x / 16 - c
+pub left16 : (x c : ℕ) → (x - c * 16) / 16 ≡ x / 16 - c
 left16 x c = omega arith
 
 least-less : (x y c : ℕ) → min (x - c) (y - c) ≡ min x y - c
@@ -49,7 +49,7 @@ module _ (h : House) (input room : List ℕ) (n m : ℕ) where
   written-add : written (n + m) h input room ≡ wired (replies h (requests n input)) ++ written m (housed n h input) (drop (n * 12) input) (drop (n * 16) room)
   written-add =
       let e : (n + m) * 16 ≡ n * 16 + m * 16 = omega arith in
-      rw (requests-add n m input, replies-append h (requests n input) (requests m (drop (n * 12) input)), wired-append (replies h (requests n input)) (replies (housed n h input) (requests m (drop (n * 12) input))), drop-drop (m * 16) (n * 16) room, e)
+      rw (requests-add n m input, replied-append h (requests n input) (requests m (drop (n * 12) input)), drop-drop (m * 16) (n * 16) room, e)
       (append-assoc (wired (replies h (requests n input))) _ _)
 
 pub goes-on : GoesOn

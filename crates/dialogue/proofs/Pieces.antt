@@ -13,10 +13,10 @@ use borrow.Author.Tests.{eqb-true, ltb-true, ltb-false, leb-false, le-leb, lt-le
 use Rattle.house.specs.declared.House.{House}
 use Rattle.house.specs.Opening.{wrongLength, openVerdict, opening}
 use Rattle.house.specs.Run.{finally, replies}
-use Rattle.house.proofs.Runs.{finally-append, replies-append}
+use Rattle.house.proofs.Runs.{finally-append}
 use Rattle.house.proofs.Tests.{is, clash, or-elim, or-false, or-right}
 use Rattle.desk.specs.Turn.{requests, wired, share, housed, turned, answered}
-use Rattle.desk.proofs.Laws.{requests-add, length-wired, wired-append}
+use Rattle.desk.proofs.Laws.{requests-add, length-wired, replied-append}
 use Rattle.desk.proofs.TwoTurns.{requests-append}
 use Rattle.dialogue.specs.declared.Fed.{Fed}
 use Rattle.dialogue.specs.declared.Dialogue.{Dialogue}
@@ -43,7 +43,7 @@ module _ (h : House) (part rest : List ℕ) where
       let m = length past / 12 in
       let e : length (part ++ rest) / 12 ≡ count + m = rw (length-append part rest, length-append (drop (count * 12) part) rest, length-drop (count * 12) part) (omega arith) in
       let r : requests (count + m) (part ++ rest) ≡ requests count part ++ requests m past = requests-add count m (part ++ rest) ∙ rw (requests-append count part rest (omega arith), drop-append-le (count * 12) part rest (omega arith)) in
-      rw (e, r, replies-append h (requests count part) (requests m past), finally-append h (requests count part) (requests m past), wired-append (replies h (requests count part)) (replies (housed count h part) (requests m past)))
+      rw (e, r, replied-append h (requests count part) (requests m past), finally-append h (requests count part) (requests m past))
 
 -- A turn on the requests past the first k bytes, with more to come
 

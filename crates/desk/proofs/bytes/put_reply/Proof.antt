@@ -1,12 +1,12 @@
 -- After k rounds the first k bytes of the reply are pasted over those that were lent, and no other (`copied-in`);
--- after sixteen it is the whole reply (`reply-copied`).
+-- after sixteen it is the whole reply (`copied-whole`).
 use Prim.Native.Nat.{_-_, _≤_}
 use native.Mathlib.Omega.{arith}
 use mathlib.Core.Path.{_≡_, refl}
 use lib.ListN.{length}
 use lib.Seq.{paste, paste-zero}
 use borrow.Author.Needs.{needs}
-use Rattle.desk.proofs.Laws.{copied-in, reply-copied}
+use Rattle.desk.proofs.Laws.{copied-in, copied-whole}
 use Rattle.desk.proofs.bytes.put_reply.Statement.{statement}
 use Rattle.desk.proofs.bytes.put_reply.Tie as tie
 
@@ -38,13 +38,13 @@ loop-less : tie.Need-loop-less Inv-loop μ-loop
 loop-less c = search needs
 
 loop-again : tie.Need-loop-again Inv-loop μ-loop
-loop-again c = (omega arith, search needs, search copied-in)
+loop-again c = (omega arith, search needs, search (copied-in, needs))
 
 same-length : tie.Need-same-length Inv-loop μ-loop
 same-length c = search needs
 
 returns : tie.Need-returns Inv-loop μ-loop
-returns c = search reply-copied
+returns c = search (copied-whole, needs)
 
 pub put-reply-spec : {M : Type 1} → statement M
 put-reply-spec =
