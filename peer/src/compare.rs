@@ -51,12 +51,9 @@ pub fn compare(
         let seed = from.wrapping_add(done);
         let input = inputs.bytes(seed);
         let ours = output_for(&input, Desk::answer);
-        compare_one(command, &input, &ours).map_err(|stop| match stop {
-            Stop::Found(what) => {
-                Stop::Found(format!("input of '{}': {what}", inputs.how_to_make(seed)))
-            }
-            other => other,
-        })?;
+        let explained = |theirs: &[u8]| explain(&input, &ours, theirs);
+        compare_one(command, &input, ours.len(), explained)
+            .map_err(|stop| stop.on_input_of(&inputs.how_to_make(seed)))?;
         if opening_is_refused(&input) {
             refused += 1;
         } else {
@@ -77,11 +74,18 @@ fn opening_is_refused(input: &[u8]) -> bool {
     run.desk().is_none()
 }
 
-fn compare_one(command: &str, input: &[u8], ours: &[u8]) -> Result<(), Stop> {
+/// Runs the program on one input. Of what it writes, `due` bytes where all is well, `explain` says
+/// the first difference.
+pub fn compare_one(
+    command: &str,
+    input: &[u8],
+    due: usize,
+    explain: impl FnOnce(&[u8]) -> Option<String>,
+) -> Result<(), Stop> {
     let mut program = Program::start(command)?;
     program.send_all_and_close(input.to_vec())?;
-    let theirs = program.receive_rest(ours.len(), PATIENCE).map_err(Stop::Found)?;
-    let Some(difference) = explain(input, ours, &theirs) else {
+    let theirs = program.receive_rest(due, PATIENCE).map_err(Stop::Found)?;
+    let Some(difference) = explain(&theirs) else {
         return program.check_end().map_err(Stop::Found);
     };
     let end = program.failed_end().unwrap_or_default();
@@ -95,22 +99,27 @@ pub fn explain(input: &[u8], ours: &[u8], theirs: &[u8]) -> Option<String> {
     }
     let same = ours.iter().zip(theirs).take_while(|(one, other)| one == other).count();
     let index = same / REPLY_BYTES;
+    let replies = explain_replies(input, index, reply_at(ours, index), reply_at(theirs, index));
+    Some(format!("the outputs differ at byte {same}\n{replies}"))
+}
+
+/// Two replies to the request of this index in words, and the house it was asked in.
+pub fn explain_replies(input: &[u8], index: usize, ours: &[u8], theirs: &[u8]) -> String {
     let place = words_for_place(input, index);
-    let (our_reply, their_reply) = (reply_at(ours, index), reply_at(theirs, index));
     let mut text = format!(
-        "the outputs differ at byte {same}\n{}\n  the peer:    {}\n  the program: {}\n",
+        "{}\n  the peer:    {}\n  the program: {}\n",
         place.what,
-        words_for_reply(our_reply),
-        words_for_reply(their_reply),
+        words_for_reply(ours),
+        words_for_reply(theirs),
     );
-    if let (Some(ours), Some(theirs)) = (whole(our_reply), whole(their_reply)) {
+    if let (Some(ours), Some(theirs)) = (whole(ours), whole(theirs)) {
         let fields = words::differing_fields(("peer", &ours), ("program", &theirs));
         text += &format!("  they differ in {fields}\n");
     }
     if let Some(house) = place.house {
         text += &format!("the house before it, as the peer sees it:\n{house}");
     }
-    Some(text)
+    text
 }
 
 /// What a reply answers, and the house it was asked in.
@@ -144,7 +153,7 @@ fn words_for_place(input: &[u8], index: usize) -> Place {
     Place { what, house: run.desk().map(words::lock_table) }
 }
 
-fn reply_at(output: &[u8], index: usize) -> &[u8] {
+pub fn reply_at(output: &[u8], index: usize) -> &[u8] {
     let start = (index * REPLY_BYTES).min(output.len());
     &output[start..(start + REPLY_BYTES).min(output.len())]
 }

@@ -34,6 +34,11 @@ const REACHABLE: [&[u8]; ROWS] = [
     &[3],
 ];
 
+/// The numbers that the operation can get in a run.
+pub fn reachable(operation: Operation) -> &'static [u8] {
+    REACHABLE[usize::from(operation.number())]
+}
+
 /// Possible by the rules, but no run on the wire gets there in practice.
 const OUT_OF_REACH: [(Operation, u8, &str); 2] = [
     (Operation::Write, 10, "takes 4,294,967,295 commits of writes to one item"),
@@ -150,7 +155,7 @@ impl Counts {
 
     /// The writes of 0 by every answer that a write may get instead.
     fn blank_writes(&self) -> impl Iterator<Item = (u8, u64)> {
-        let row = REACHABLE[usize::from(Operation::Write.number())];
+        let row = reachable(Operation::Write);
         let blank = Refusal::BlankSheet.number();
         let others = NUMBERS.into_iter().zip(self.blank);
         others.filter(move |(number, _)| *number != blank && row.contains(number))

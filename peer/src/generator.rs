@@ -113,7 +113,7 @@ impl Generator {
     }
 
     /// Keeps the desk up with the request, and remembers tickets that end with it.
-    fn follow(&mut self, request: &Request) {
+    pub fn follow(&mut self, request: &Request) {
         let was_open = self.desk.find(request.level, request.ticket).is_ok();
         self.desk.answer(request);
         if was_open && self.desk.find(request.level, request.ticket).is_err() {
@@ -224,16 +224,10 @@ impl Generator {
             // The ticket of one level used at another.
             4 => request.level = self.rng.below(LEVELS.into()) as u8,
             5 => request.operation = self.rng.below(Operation::ALL.len()) as u8,
-            6 => request.item = self.strange_item(),
+            6 => request.item = strange_item(&mut self.rng, self.desk.items.len()),
             7 => request.item = self.rng.below(self.desk.items.len()) as u16,
             _ => request.ticket = self.strange_ticket(request.level),
         }
-    }
-
-    fn strange_item(&mut self) -> u16 {
-        let count = self.desk.items.len() as u16;
-        let any = self.rng.next() as u16;
-        self.rng.pick(&[count, count + 1, 64, 256, u16::MAX, any]).unwrap_or(any)
     }
 
     fn strange_ticket(&mut self, level: u8) -> u32 {
@@ -257,8 +251,15 @@ impl Generator {
     }
 }
 
+/// The number of an item that a house of so many mostly does not have.
+pub fn strange_item(rng: &mut Rng, items: usize) -> u16 {
+    let count = items as u16;
+    let any = rng.next() as u16;
+    rng.pick(&[count, count + 1, 64, 256, u16::MAX, any]).unwrap_or(any)
+}
+
 /// A byte past the edge: half of the time the first one.
-fn at_or_above(rng: &mut Rng, first: u8) -> u8 {
+pub fn at_or_above(rng: &mut Rng, first: u8) -> u8 {
     if rng.one_in(2) {
         first
     } else {

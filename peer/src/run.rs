@@ -80,16 +80,25 @@ impl Run {
         let State::Open(desk) = &mut self.state else {
             return Vec::new();
         };
-        let mut replies = Vec::new();
-        let mut rest = self.waiting.as_slice();
-        while let Some((bytes, after)) = rest.split_first_chunk::<REQUEST_BYTES>() {
-            let reply = (self.answer)(desk, &Request::from_bytes(bytes));
-            replies.extend_from_slice(&reply.to_bytes());
-            rest = after;
-        }
+        let (replies, rest) = answer_whole(desk, self.answer, &self.waiting);
         self.waiting = rest.to_vec();
         replies
     }
+}
+
+/// The replies to the whole requests of these bytes, and the bytes behind them.
+pub fn answer_whole<'a>(
+    desk: &mut Desk,
+    answer: Answer,
+    mut bytes: &'a [u8],
+) -> (Vec<u8>, &'a [u8]) {
+    let mut replies = Vec::new();
+    while let Some((request, rest)) = bytes.split_first_chunk::<REQUEST_BYTES>() {
+        let reply = answer(desk, &Request::from_bytes(request));
+        replies.extend_from_slice(&reply.to_bytes());
+        bytes = rest;
+    }
+    (replies, bytes)
 }
 
 /// All that the program writes for this whole input.

@@ -12,6 +12,16 @@ pub enum Stop {
     Stream(io::Error),
 }
 
+impl Stop {
+    /// What was found is about the input that this command makes.
+    pub fn on_input_of(self, command: &str) -> Stop {
+        match self {
+            Stop::Found(what) => Stop::Found(format!("input of '{command}': {what}")),
+            other => other,
+        }
+    }
+}
+
 impl From<io::Error> for Stop {
     fn from(error: io::Error) -> Stop {
         Stop::Stream(error)
