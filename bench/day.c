@@ -1,4 +1,4 @@
-// The worked day and M1 to M12 of document 01 through the two calls of the static library.
+// The worked day and M1 to M12 of document 01, and a map, through the calls of the static library.
 // Says each difference; the exit status is 1 where there is one.
 #include "proved.h"
 #include "wire.h"
@@ -61,6 +61,13 @@ static const struct step m10[] = {UP_TO_M9,
 static const struct step m11[] = {UP_TO_M11};
 static const struct step m12[] = {UP_TO_M11, CALLS(ABORT, 0, 1, DONE),
                                   CALLS(CERTIFY, 2, 1, SIGNALLED)};
+// A map of level 2, ticket 1, that meets an item that does not exist, and an item again. Its lock on item 0 is signalled later.
+static const uint16_t map_items[] = {0, 3, 2, 0};
+static const struct step map_before[] = {THREE_OPEN};
+static const struct step map_reads[] = {READS(2, 1, 0, 0, 0), READ_REFUSED(2, 1, 3, NO_ITEM),
+                                        READS(2, 1, 2, 0, 0), READS(2, 1, 0, 0, 0)};
+static const struct step map_after[] = {WRITES(0, 1, 0, 7, DONE), CALLS(CERTIFY, 0, 1, DONE),
+                                        ASKS(2, 1, 0, 1)};
 static const struct step day[] = {BEGINS(0, 1), WRITES(0, 1, 0, 7, DONE), READS(0, 1, 0, 7, 1)};
 
 // The day as document 01 prints it: the layout on the wire is not taken from wire.h alone.
@@ -83,6 +90,12 @@ static const struct example examples[] = {
     EXAMPLE("M8", marked_levels, m8),           EXAMPLE("M9", marked_levels, m9),
     EXAMPLE("M10", marked_levels, m10),         EXAMPLE("M11", marked_levels, m11),
     EXAMPLE("M12", marked_levels, m12),
+};
+
+static const struct example map_parts[] = {
+    EXAMPLE("before the map", marked_levels, map_before),
+    EXAMPLE("the map", marked_levels, map_reads),
+    EXAMPLE("after the map", marked_levels, map_after),
 };
 
 static void show(const char *what, const uint8_t *bytes, size_t len) {
@@ -142,14 +155,36 @@ static const struct {
 } turns[] = {{"desk_fresh_turn", desk_fresh_turn},
             {"desk_fresh_turn_in_place", desk_fresh_turn_in_place}};
 
-static void try(const struct example *e) {
-    uint8_t requests[(MOST_STEPS + 1) * REQUEST_BYTES], expected[MOST_STEPS * REPLY_BYTES];
-    uint8_t replies[(MOST_STEPS + 1) * REPLY_BYTES];
-    memset(requests, GUARD, sizeof requests);
+static void lay_out(const struct example *e, uint8_t *requests, uint8_t *expected) {
     for (size_t k = 0; k < e->steps; k++) {
         request_to(requests + k * REQUEST_BYTES, e->step[k].request);
         reply_to(expected + k * REPLY_BYTES, e->step[k].reply);
     }
+}
+
+// The map with `room` bytes lent for its replies: it handles as many items as these have whole places.
+static void try_map(size_t room) {
+    enum { PARTS = 3 };
+    uint8_t requests[PARTS][MOST_STEPS * REQUEST_BYTES], expected[PARTS][MOST_STEPS * REPLY_BYTES];
+    uint8_t replies[PARTS][MOST_STEPS * REPLY_BYTES];
+    memset(replies, GUARD, sizeof replies);
+    for (size_t p = 0; p < PARTS; p++) lay_out(&map_parts[p], requests[p], expected[p]);
+    size_t before = map_parts[0].steps, items = map_parts[1].steps, after = map_parts[2].steps;
+    size_t handled = desk_fresh_map(marked_levels, sizeof marked_levels, requests[0], before * REQUEST_BYTES, replies[0],
+                                    before * REPLY_BYTES, 2, 1, map_items, items, replies[1], room, requests[2],
+                                    after * REQUEST_BYTES, replies[2], after * REPLY_BYTES);
+    size_t due[PARTS] = {before, least(items, room / REPLY_BYTES), after};
+    for (size_t p = 0; p < PARTS; p++)
+        differing += !same(map_parts[p].name, "desk_fresh_map", requests[p], expected[p], replies[p],
+                           sizeof replies[p], due[p], p == 1 ? handled : due[p]);
+    calls++;
+}
+
+static void try(const struct example *e) {
+    uint8_t requests[(MOST_STEPS + 1) * REQUEST_BYTES], expected[MOST_STEPS * REPLY_BYTES];
+    uint8_t replies[(MOST_STEPS + 1) * REPLY_BYTES];
+    memset(requests, GUARD, sizeof requests);
+    lay_out(e, requests, expected);
     if (e->step == day && (memcmp(requests, day_requests, sizeof day_requests) != 0 ||
                            memcmp(expected, day_replies, sizeof day_replies) != 0)) {
         printf("%s: wire.h does not write the bytes of document 01\n", e->name);
@@ -181,6 +216,9 @@ int main(void) {
     size_t count = sizeof examples / sizeof *examples;
     try_openings();
     for (size_t k = 0; k < count; k++) try(&examples[k]);
-    printf("openings, the worked day and M1 to M%zu: %zu calls, %zu differ\n", count - 1, calls, differing);
+    // More than all places, and one byte too few for the last.
+    try_map(5 * REPLY_BYTES + 9);
+    try_map(4 * REPLY_BYTES - 1);
+    printf("openings, the worked day, M1 to M%zu and a map: %zu calls, %zu differ\n", count - 1, calls, differing);
     return differing == 0 ? 0 : 1;
 }

@@ -1,23 +1,7 @@
 // The program of document 01 around one of the desks: standard input to standard output.
 // It is there for the comparison with the independent desk, so it reads all input first.
 #include "desks.h"
-
-#include <stdio.h>
-#include <stdlib.h>
-
-static uint8_t *read_all(size_t *len) {
-    size_t room = 1 << 16, got;
-    uint8_t *bytes = malloc(room);
-    *len = 0;
-    while (bytes && (got = fread(bytes + *len, 1, room - *len, stdin)) > 0) {
-        *len += got;
-        if (*len < room) continue;
-        uint8_t *more = realloc(bytes, room *= 2);
-        if (!more) free(bytes);
-        bytes = more;
-    }
-    return bytes;
-}
+#include "input.h"
 
 int main(int argc, char **argv) {
     const struct desk *desk = argc == 2 ? desk_named(argv[1]) : NULL;

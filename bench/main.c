@@ -2,6 +2,9 @@
 // `run` makes the table and the chart of them.
 #include "desks.h"
 #include "traffic.h"
+#ifdef WITH_PROVED
+#include "proved.h"
+#endif
 
 #include <inttypes.h>
 #include <stdio.h>
@@ -137,16 +140,124 @@ static void once(const struct desk *desk, size_t count, int times) {
     free(replies);
 }
 
+static size_t number(const char *word) { return strtoul(word, NULL, 10); }
+
+#ifdef WITH_PROVED
+// Ways to read every item of a full house for one transaction of the top level: by single reads, or by one map. With them
+// stand the same calls without the reads, which are taken off, and of the proved one's what comes before the map.
+struct way {
+    const char *name;
+    const struct desk *desk;   // NULL: the proved desk's call for a map, with a turn before it and one behind it
+    size_t reads, items;       // single reads in a turn; items of the map
+};
+
+enum { WAYS = 6, TOP = LEVELS - 1, CALLS_TIMED = 1000 };
+static uint8_t asked[(1 + MOST_ITEMS) * REQUEST_BYTES];
+static uint16_t listed[MOST_ITEMS];
+
+// Fills `ways`, and what they ask: a begin, then the reads.
+static void prepare(struct way ways[WAYS]) {
+    const struct desk *plain = desk_named("plain"), *proved = desk_named("in_place");
+    ways[0] = (struct way){"plain_begin", plain, 0, 0};
+    ways[1] = (struct way){"plain_reads", plain, MOST_ITEMS, 0};
+    ways[2] = (struct way){"begin", NULL, 0, 0};
+    ways[3] = (struct way){"reads", NULL, MOST_ITEMS, 0};
+    ways[4] = (struct way){"map", NULL, 0, MOST_ITEMS};
+    ways[5] = (struct way){"turn_begin", proved, 0, 0};
+    request_to(asked, (struct request){BEGIN, TOP, 0, 0, 0});
+    for (uint16_t k = 0; k < MOST_ITEMS; k++) {
+        listed[k] = k;
+        request_to(asked + (1 + k) * REQUEST_BYTES, (struct request){READ, TOP, k, 1, 0});
+    }
+}
+
+static size_t replies_to(const struct way *way) { return 1 + way->reads + way->items; }
+
+// The replies of all ways lie alike: that of the begin, then those of the reads. The count is that of the turn, or of the map.
+static size_t call(const struct way *way, uint8_t *replies) {
+    uint8_t *of_reads = replies + REPLY_BYTES;
+    if (way->desk)
+        return way->desk->run(traffic_levels, MOST_ITEMS, asked, replies_to(way) * REQUEST_BYTES, replies,
+                              replies_to(way) * REPLY_BYTES);
+    return desk_fresh_map(traffic_levels, MOST_ITEMS, asked, REQUEST_BYTES, replies, REPLY_BYTES, TOP, 1, listed,
+                          way->items, of_reads, way->items * REPLY_BYTES, asked + REQUEST_BYTES,
+                          way->reads * REQUEST_BYTES, of_reads, way->reads * REPLY_BYTES);
+}
+
+// Callgrind collects while this function runs; one call alone would be too short for the clock.
+__attribute__((noinline)) void called(const struct way *way, uint8_t *replies, size_t times) {
+    for (size_t t = 0; t < times; t++) {
+        if (call(way, replies) == (way->desk ? replies_to(way) : way->items)) continue;
+        fprintf(stderr, "bench: %s did not answer all\n", way->name);
+        exit(1);
+    }
+}
+
+// ns per call of each way, the least of rounds over all in turn; replies are the plain desk's first, byte for byte.
+static void time_maps(int rounds) {
+    struct way ways[WAYS];
+    uint8_t replies[sizeof asked / REQUEST_BYTES * REPLY_BYTES], expected[sizeof replies];
+    uint64_t least[WAYS];
+    prepare(ways);
+    called(&ways[1], expected, 1);
+    for (int w = 0; w < WAYS; w++) {
+        memset(replies, 0xee, sizeof replies);
+        called(&ways[w], replies, 1);
+        least[w] = UINT64_MAX;
+        if (memcmp(replies, expected, replies_to(&ways[w]) * REPLY_BYTES) == 0) continue;
+        fprintf(stderr, "bench: the replies of %s differ from those of %s\n", ways[w].name, ways[1].name);
+        exit(1);
+    }
+    for (int r = 0; r < rounds; r++) {
+        for (int w = 0; w < WAYS; w++) {
+            uint64_t began = now();
+            called(&ways[w], replies, CALLS_TIMED);
+            uint64_t took = now() - began;
+            if (took < least[w]) least[w] = took;
+        }
+    }
+    for (int w = 0; w < WAYS; w++)
+        printf("map,time,%s,%d,%.2f\n", ways[w].name, MOST_ITEMS, (double)least[w] / CALLS_TIMED);
+}
+
+// 2 where the words are none of these modes.
+static int act_on_maps(int words, char **word) {
+    struct way ways[WAYS];
+    uint8_t replies[sizeof asked / REQUEST_BYTES * REPLY_BYTES];
+    const char *mode = words > 0 ? word[0] : "";
+    prepare(ways);
+    if (strcmp(mode, "ways") == 0 && words == 1) {
+        for (int w = 0; w < WAYS; w++) puts(ways[w].name);
+        return 0;
+    }
+    if (strcmp(mode, "maps") == 0 && words == 2) return time_maps((int)number(word[1])), 0;
+    for (int w = 0; strcmp(mode, "way") == 0 && words == 3 && w < WAYS; w++) {
+        if (strcmp(ways[w].name, word[1]) != 0) continue;
+        // Once before it counts, so that no function is first found while it does.
+        call(&ways[w], replies);
+        called(&ways[w], replies, number(word[2]));
+        return 0;
+    }
+    return 2;
+}
+#else
+// The map is a call of the proved desk.
+static int act_on_maps(int words, char **word) { return (void)words, (void)word, 2; }
+#endif
+
 static int usage(void) {
     fprintf(stderr, "usage: bench desks\n"
                     "       bench time REQUESTS ROUNDS\n"
                     "       bench growth MOST ROUNDS\n"
                     "       bench make MIX REQUESTS\n"
                     "       bench once DESK REQUESTS TIMES\n");
+#ifdef WITH_PROVED
+    fprintf(stderr, "       bench ways\n"
+                    "       bench maps ROUNDS\n"
+                    "       bench way WAY TIMES\n");
+#endif
     return 2;
 }
-
-static size_t number(const char *word) { return strtoul(word, NULL, 10); }
 
 static int act(int words, char **word) {
     const char *mode = words > 0 ? word[0] : "";
@@ -164,7 +275,7 @@ static int act(int words, char **word) {
         make((enum mix)mix, number(word[2]));
     } else if (strcmp(mode, "once") == 0 && words == 4 && desk_named(word[1])) {
         once(desk_named(word[1]), number(word[2]), (int)number(word[3]));
-    } else {
+    } else if (act_on_maps(words, word) != 0) {
         return usage();
     }
     return 0;

@@ -18,6 +18,7 @@ $1 == "instructions" { instructions[$2, $3] = $5; counted = $4 }
 $1 == "x86_64" { foreign[$2, $3] = $5; few = $4 }
 $1 == "growth" { growth[$3, $4] = $5; if (!($4 in sized)) { sized[$4] = 1; sizes[++g] = $4 } }
 $1 == "calls" { calls[$2] = $5 / $4 }
+$1 == "map" { if (!(($2, $3) in call) || $5 < call[$2, $3]) call[$2, $3] = $5; read = $4 }
 $1 == "mix" { total[$2] += $5; of_number[$2, $4] += $5; of_both[$2, $3, $4] += $5 }
 
 function row(first, cells) { print "| " first " |" cells }
@@ -39,11 +40,36 @@ function figures(what, figure,    d, m, line, mix, desk) {
     }
     print ""
 }
+# Of one call, less the same call without reads, a read's share.
+function per_read(unit, way, base) { return (call[unit, way] - call[unit, base]) / read }
+function maps(    u, k, line, rule, unit, plain, single, map, units, heads, rows) {
+    split("time instructions x86_64", units, " ")
+    split("ns,instructions,x86-64 instructions", heads, ",")
+    for (u = 1; u <= 3; u++) {
+        unit = units[u]
+        if (!((unit, "map") in call)) continue
+        line = line " " heads[u] " |"; rule = rule "---|"
+        plain = per_read(unit, "plain_reads", "plain_begin"); single = per_read(unit, "reads", "begin"); map = per_read(unit, "map", "begin")
+        rows[1] = rows[1] sprintf(" %.1f |", plain); rows[2] = rows[2] sprintf(" %.1f |", single)
+        rows[3] = rows[3] sprintf(" %.1f |", map); rows[4] = rows[4] sprintf(" %.2f |", map / single)
+        rows[5] = rows[5] sprintf(" %.0f |", call[unit, "begin"]); rows[6] = rows[6] sprintf(" %.0f |", call[unit, "turn_begin"])
+    }
+    row(read " items by one map beside " read " single reads, per read", line); print "|---|" rule
+    row("plain C, single reads", rows[1])
+    row("proved `turn_in_place`, single reads", rows[2])
+    row("**proved map**", rows[3])
+    row("map to single reads, proved (target: at most 1.1)", rows[4])
+    row("the whole call, with nothing to read", rows[5])
+    row("of it the opening and the first turn", rows[6])
+    print ""
+}
 END {
     if (meta["note"] != "") print "_" meta["note"] ": these times were not taken on a quiet machine and settle nothing._\n"
     figures("ns per request (ratio to plain C; to tuned C)", time)
     if (counted) figures("instructions per request (ratio to plain C; to tuned C)", instructions)
     if (few) figures("x86-64 instructions per request (ratio to plain C; to tuned C)", foreign)
+
+    if (read) maps()
 
     head("the mix met: reply, share in percent")
     for (k = 0; k <= 15; k++) {

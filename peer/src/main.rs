@@ -7,6 +7,7 @@ mod cover;
 mod desk;
 mod generator;
 mod guide;
+mod maps;
 mod program;
 mod progress;
 mod rng;
@@ -21,7 +22,7 @@ mod words;
 use compare::Inputs;
 use desk::Desk;
 use run::Answer;
-use std::io::{self, Write};
+use std::io::{self, Read, Write};
 use std::process::ExitCode;
 use stop::Stop;
 
@@ -36,11 +37,16 @@ usage: peer COMMAND
   run                            the desk: standard input to standard output
   gen SEED N                     write the input of a seed: a header and N requests
   gen --random SEED              write the random byte string of a seed
+  gen --map SEED                 write the case of a map of a seed (see bench/maps.c)
   compare PROGRAM SEEDS N [--from S]
                                  run PROGRAM on that many inputs of gen; its bytes must be
                                  the peer's
   compare --random PROGRAM COUNT [--from S]
                                  the same with random byte strings
+  maps PROGRAM COUNT [--from S]  run PROGRAM on that many cases of maps; its bytes must be
+                                 those of single reads, and the cases must meet what a map can
+  map                            answer one case of a map: standard input to standard output
+  map --slip K                   the same with slip K of maps (1, 2 ..) made on purpose
   converse PROGRAM               hold a dialogue with PROGRAM, one request at a time
   serial SEEDS N                 check demand 3 on random runs of the peer's own desk
   cover SEEDS N                  count the replies that gen's inputs meet
@@ -85,15 +91,21 @@ fn dispatch(words: &[&str]) -> Result<(), Stop> {
     match *words {
         ["help"] => Ok(out.write_all(HELP.as_bytes())?),
         ["run"] => run_here(Desk::answer),
-        ["slip", number] => run_here(slip(number)?),
+        ["slip", number] => run_here(numbered(&slips::SLIPS, number)?),
         ["gen", "--random", seed] => {
             Ok(out.write_all(&generator::random_bytes(parse(seed, "SEED")?))?)
+        }
+        ["gen", "--map", seed] => {
+            Ok(out.write_all(&maps::Case::of_seed(parse(seed, "SEED")?).to_bytes())?)
         }
         ["gen", seed, requests] => {
             let input = generator::input(parse(seed, "SEED")?, parse_requests(requests)?);
             Ok(out.write_all(&input)?)
         }
         ["compare", ref rest @ ..] => compare_here(rest, &mut out),
+        ["maps", ref rest @ ..] => maps_here(rest, &mut out),
+        ["map"] => map_here(maps::read_map, &mut out),
+        ["map", "--slip", number] => map_here(numbered(&maps::SLIPS, number)?, &mut out),
         ["converse", program] => converse::converse(program, &mut out),
         ["serial", seeds, requests] => {
             serial::serial(parse_count(seeds, "SEEDS")?, parse_requests(requests)?, &mut out)
@@ -113,11 +125,16 @@ fn dispatch(words: &[&str]) -> Result<(), Stop> {
     }
 }
 
+/// The words before `--from S`, and S.
+fn split_from<'a, 'b>(words: &'a [&'b str]) -> Result<(&'a [&'b str], u64), Stop> {
+    match *words {
+        [ref before @ .., "--from", from] => Ok((before, parse(from, "S")?)),
+        _ => Ok((words, 0)),
+    }
+}
+
 fn compare_here(words: &[&str], out: &mut impl Write) -> Result<(), Stop> {
-    let (words, from) = match *words {
-        [ref before @ .., "--from", from] => (before, parse(from, "S")?),
-        _ => (words, 0),
-    };
+    let (words, from) = split_from(words)?;
     match *words {
         ["--random", program, count] => {
             compare::compare(program, &Inputs::Random, from, parse_count(count, "COUNT")?, out)
@@ -134,13 +151,29 @@ fn run_here(answer: Answer) -> Result<(), Stop> {
     Ok(run::serve(io::stdin().lock(), io::stdout().lock(), answer)?)
 }
 
-fn slip(number: &str) -> Result<Answer, Stop> {
+fn maps_here(words: &[&str], out: &mut impl Write) -> Result<(), Stop> {
+    match split_from(words)? {
+        (&[program, count], from) => {
+            maps::compare(program, from, parse_count(count, "COUNT")?, out)
+        }
+        _ => Err(usage(&["maps"])),
+    }
+}
+
+fn map_here(call: maps::Call, out: &mut impl Write) -> Result<(), Stop> {
+    let mut input = Vec::new();
+    io::stdin().lock().read_to_end(&mut input)?;
+    Ok(out.write_all(&maps::answer(&input, call)?)?)
+}
+
+/// The slip of this number among those listed; the first is 1.
+fn numbered<T: Copy>(slips: &[(&str, T)], number: &str) -> Result<T, Stop> {
     let index = parse(number, "K")?.checked_sub(1).and_then(|index| usize::try_from(index).ok());
-    let slip = index.and_then(|index| slips::SLIPS.get(index));
-    let (_, answer) = slip.ok_or_else(|| {
-        Stop::Cannot(format!("there is no slip {number}: K is 1 to {}", slips::SLIPS.len()))
+    let slip = index.and_then(|index| slips.get(index));
+    let (_, slip) = slip.ok_or_else(|| {
+        Stop::Cannot(format!("there is no slip {number}: K is 1 to {}", slips.len()))
     })?;
-    Ok(*answer)
+    Ok(*slip)
 }
 
 fn parse(word: &str, name: &str) -> Result<u64, Stop> {

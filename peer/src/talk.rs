@@ -28,6 +28,7 @@ one line each:
   open 0 0 2               opens a fresh house: the level of each item, 0 to 3
   begin 0                  a new transaction at level 0; its ticket comes back
   read 0 #1 item 0         level 0, ticket 1
+  map 0 #1 items 0 1 0     a whole map: the single reads of these items
   write 0 #1 item 0 = 7
   certify 0 #1             then  commit 0 #1
   abort 0 #1
@@ -151,6 +152,12 @@ impl<'a, W: Write> Talk<'a, W> {
             "open" => {
                 return match parse_levels(rest) {
                     Ok(levels) => self.open(&levels),
+                    Err(message) => self.say(&message),
+                }
+            }
+            "map" => {
+                return match parse_map(rest) {
+                    Ok(reads) => reads.iter().try_for_each(|read| self.ask(read)),
                     Err(message) => self.say(&message),
                 }
             }
@@ -310,6 +317,15 @@ fn parse_levels(words: &str) -> Result<Vec<u8>, String> {
     Ok(levels)
 }
 
+/// A map is the same as its single reads over the wire (CR 2).
+fn parse_map(words: &str) -> Result<Vec<Request>, String> {
+    let Some((name, items)) = words.split_once(" items ") else {
+        return Err("map needs more; say 'map 0 #1 items 0 1 0'".to_string());
+    };
+    let read = |item| words::parse_request(&format!("read {name} item {item}"));
+    items.split_whitespace().map(read).collect()
+}
+
 fn parse_raw(words: &str) -> Result<Request, String> {
     let byte = |word: &str| {
         let digits = word.chars().all(|digit| digit.is_ascii_hexdigit());
@@ -361,6 +377,22 @@ mod tests {
         assert!(text.contains("7, refused: no such item"), "{text}");
         assert!(text.contains("2#1"), "{text}");
         assert!(text.trim_end().ends_with("> quit"), "{text}");
+    }
+
+    #[test]
+    fn a_map_is_its_single_reads() {
+        let reads = "read 1 #1 item 0\nread 1 #1 item 9\nread 1 #1 item 0\n";
+        let played = |lines: &str| transcript(&format!("open 0 1\nbegin 1\n{lines}ask 1 #1\n"));
+        let without_echo = |text: String| {
+            text.lines().filter(|line| !line.starts_with('>')).map(String::from).collect::<Vec<_>>()
+        };
+        let by_map = without_echo(played("map 1 #1 items 0 9 0\n"));
+        assert_eq!(by_map, without_echo(played(reads)));
+        assert!(by_map.iter().any(|line| line.contains("7, refused: no such item")));
+        let text = played("map 1 #1\nmap 1 items 0\nmap 1 #1 items x\n");
+        for wanted in ["map needs more", "read needs more", "'x' is not an item"] {
+            assert!(text.contains(wanted), "{text}");
+        }
     }
 
     #[test]

@@ -67,6 +67,48 @@ fn compare_finds_every_slip() {
 }
 
 #[test]
+fn maps_agree_with_single_reads() {
+    let own = format!("{PEER} map");
+    let wanted = ["compared 120 maps", ": no difference", "maps with a lock of the map seen"];
+    assert_says(&["maps", &own, "120"], 0, &wanted);
+    assert_says(&["maps", &own, "3", "--from", "900"], 0, &["compared 3 maps"]);
+    let case = peer(&["gen", "--map", "5"]).stdout;
+    assert!(peer_with_input(&["map"], &case).status.success());
+}
+
+#[test]
+fn maps_finds_every_slip() {
+    let wanted = [
+        ("1", "the counts differ"),
+        ("2", "the counts differ"),
+        ("3", "the counts differ"),
+        ("4", "the counts differ"),
+        ("5", "whole reply places"),
+        ("6", "past the last reply, has to stay a5 and is 00"),
+        ("7", "the map is the same, but not what it left in the house"),
+        ("8", "the counts differ"),
+        ("9", "the map is the same, but not what it left in the house"),
+    ];
+    for (slip, words) in wanted {
+        let program = format!("{PEER} map --slip {slip}");
+        assert_says(&["maps", &program, "100"], 1, &["input of 'peer gen --map", words]);
+    }
+    assert_says(&["map", "--slip", "10"], 2, &["there is no slip 10: K is 1 to 9"]);
+}
+
+#[test]
+fn maps_finds_programs_that_are_no_map_call() {
+    assert_says(&["maps", "true", "3"], 1, &["only 0 bytes of a count"]);
+    assert_says(&["maps", "cat", "3"], 1, &["the counts differ"]);
+    assert_says(&["maps", "no-such-program", "3"], 2, &["cannot start"]);
+    let program = script("map_ends_with_3", &format!("'{PEER}' map; exit 3"));
+    assert_says(&["maps", &program, "3"], 1, &["it ended with exit status 3"]);
+    assert_says(&["map"], 2, &["no case of a map: the input ends too early"]);
+    // A case whose house has no items.
+    assert_eq!(peer_with_input(&["map"], &[0; 12]).status.code(), Some(2));
+}
+
+#[test]
 fn compare_finds_programs_that_are_no_desk() {
     assert_says(&["compare", "true", "3", "10"], 1, &["the program: nothing"]);
     assert_says(&["compare", "cat", "3", "10"], 1, &["they differ in"]);
@@ -152,6 +194,9 @@ fn wrong_usage_is_told() {
     assert_says(&["gen", "x", "1"], 2, &["SEED has to be a number"]);
     assert_says(&["gen", "1", "99999999999"], 2, &["N is at most"]);
     assert_says(&["cover", "0", "400"], 2, &["SEEDS has to be at least 1"]);
+    assert_says(&["maps", "x"], 2, &["wrong usage of maps", "maps PROGRAM COUNT"]);
+    assert_says(&["maps", "x", "0"], 2, &["COUNT has to be at least 1"]);
+    assert_says(&["map", "x"], 2, &["wrong usage of map;", "map --slip K"]);
     assert_says(&["slip", "0"], 2, &["there is no slip 0"]);
     assert_says(&["--help"], 0, &["usage: peer COMMAND"]);
 }

@@ -1,5 +1,5 @@
 -- Each promise settles its outcome: any two that it allows for the same arguments are equal, and so are the reply bytes, which
--- stand at `s .1 .1 .0`: what the third parameter lends, as the function returns.
+-- stand at `s .1 .1 .0`: what the third parameter lends, as the function returns. A map has those of the seventh and the ninth too.
 -- `Reads.Post` is the contract as the checker reads it off the source.
 -- Assumes nothing.
 use mathlib.Core.Path.{_≡_, sym, _∙_}
@@ -8,6 +8,9 @@ use borrow.Fn.World
 use contract.Lifetimes
 use denote.Ref.{now}
 use denote.Triple.Clauses
+use Rattle.port.proofs.desk_fresh_map as maps
+use Rattle.port.proofs.desk_fresh_map.Kinds as maps-kinds
+use Rattle.port.proofs.desk_fresh_map.Reads as maps-reads
 use Rattle.port.proofs.desk_fresh_open as opens
 use Rattle.port.proofs.desk_fresh_open.Kinds as opens-kinds
 use Rattle.port.proofs.desk_fresh_open.Reads as opens-reads
@@ -26,3 +29,9 @@ desk-fresh-turn-in-place-settled κs a r r′ s s′ p q = (p .0 ∙ sym (q .0),
 
 pub desk-fresh-turn-settled : (κs : Lifetimes.Lfts 3) (a : World.ArgsD turns.signature κs) (r r′ : World.ResD turns.signature κs) (s s′ : Clauses.AtExit (Kinds'.endedOf 3 turns-kinds.ps turns-kinds.r) κs) → turns-reads.Post κs a r s → turns-reads.Post κs a r′ s′ → (r ≡ r′) × (now (s .1 .1 .0) ≡ now (s′ .1 .1 .0))
 desk-fresh-turn-settled κs a r r′ s s′ p q = (p .0 ∙ sym (q .0), p .1 ∙ sym (q .1))
+
+pub desk-fresh-map-settled : (κs : Lifetimes.Lfts 7) (a : World.ArgsD maps.signature κs) (r r′ : World.ResD maps.signature κs) (s s′ : Clauses.AtExit (Kinds'.endedOf 7 maps-kinds.ps maps-kinds.r) κs) → maps-reads.Post κs a r s → maps-reads.Post κs a r′ s′ →
+    let seventh = s .1 .1 .1 .1 .1 .1 in
+    let seventh′ = s′ .1 .1 .1 .1 .1 .1 in
+    (r ≡ r′) × (now (s .1 .1 .0) ≡ now (s′ .1 .1 .0)) × (now (seventh .0) ≡ now (seventh′ .0)) × (now (seventh .1 .1 .0) ≡ now (seventh′ .1 .1 .0))
+desk-fresh-map-settled κs a r r′ s s′ p q = (p .0 ∙ sym (q .0), p .1 ∙ sym (q .1), p .2 ∙ sym (q .2), p .3 ∙ sym (q .3))

@@ -1,12 +1,15 @@
-// The desk for a caller in C: calls on numbers and byte slices, each with a fresh house that is gone when it returns. A slice is
+// The desk for a caller in C: calls on numbers and slices, each with a fresh house that is gone when it returns. A slice is
 // two arguments there, a pointer and a length. What the types say here the caller in C has to keep: a pointer is valid for its
 // whole length, and the reply bytes overlap no other slice of the call.
 
 ghost use mathlib.Core.Path.{_≡_};
+ghost use lib.ListN.{length};
 ghost use Rattle.house.specs.Opening.{opening};
 ghost use Rattle.desk.specs.Turn.{turned, answered};
+ghost use Rattle.maps.specs.Map.{mapped, filled};
 use desk::turn;
 use desk::turn_in_place;
+use maps::read_map;
 use opening::open;
 
 // The number of an opening: 0, 13 or 14.
@@ -51,4 +54,37 @@ pub extern "C" fn desk_fresh_turn_in_place(
     let house = opened.house;
     let served = turn_in_place(house, requests, replies, most);
     served.count
+}
+
+// Opens a house, serves a turn of all requests of `before` in it, reads the map of `items`, and serves a turn of all requests of
+// `after`, which shows what the map left in the house; the count of the items handled. The replies of the turns go to `earlier` and
+// `later`.
+#[no_mangle]
+pub extern "C" fn desk_fresh_map(
+    levels: &[u8],
+    before: &[u8],
+    earlier: &mut [u8],
+    level: u8,
+    ticket: u32,
+    items: &[u16],
+    replies: &mut [u8],
+    after: &[u8],
+    later: &mut [u8],
+) -> usize
+    ensures { λ r. ⌜ (let opened = opening (now (levels .entry)) .house in
+        let served = turned opened (now (before .entry)) (now (earlier .entry)) (length (now (before .entry))) in
+        let map = mapped (served .house) level ticket (now (items .entry)) (now (replies .entry)) in
+        (r ≡ map .count)
+        × (now (earlier .exit) ≡ answered opened (now (before .entry)) (now (earlier .entry)) (length (now (before .entry))))
+        × (now (replies .exit) ≡ filled (served .house) level ticket (now (items .entry)) (now (replies .entry)))
+        × (now (later .exit) ≡ answered (map .house) (now (after .entry)) (now (later .entry)) (length (now (after .entry))))) ⌝ }
+{
+    let opened = open(levels);
+    let house = opened.house;
+    let served = turn_in_place(house, before, earlier, before.len());
+    let house = served.house;
+    let map = read_map(house, level, ticket, items, replies);
+    let house = map.house;
+    turn_in_place(house, after, later, after.len());
+    map.count
 }

@@ -1,9 +1,9 @@
 -- Demand 3 over bytes: what is read from the wire is the trace of the requests that were answered.
 -- Assumes nothing.
-use Prim.Native.Nat.{ℕ, zero, suc, _+_, _*_}
+use Prim.Native.Nat.{ℕ, zero, suc, _+_}
 use mathlib.Core.Path.{_≡_, refl, sym, ap, ap₂, _∙_}
 use mathlib.Core.List.{List, [], _∷_, _++_, append-assoc}
-use lib.ListN.{drop}
+use lib.ListN.{take, drop}
 use lib.Seq.{getD-drop}
 use Rattle.house.specs.declared.House.{House}
 use Rattle.house.specs.declared.Reply.{Reply}
@@ -11,14 +11,18 @@ use Rattle.house.specs.declared.Request.{Request}
 use Rattle.house.specs.Rules.{stepped}
 use Rattle.house.specs.Opening.{opening}
 use Rattle.house.specs.Run.{finally, replies}
-use Rattle.house.proofs.Runs.{finally-append}
-use Rattle.wire.specs.Wire.{requestAt, replyAt, replyBytes}
-use Rattle.wire.specs.RoundTrip.{FitReply}
+use Rattle.wire.specs.Wire.{replyAt, replyBytes}
+use Rattle.wire.specs.RoundTrip.{FitRequest, FitReply}
 use Rattle.wire.proofs.RoundTrip.{reply-read-back}
-use Rattle.desk.specs.Turn.{requests, wired, share, housed, turned, answered}
+use Rattle.desk.specs.Turn.{requests, wired, share}
+use Rattle.maps.specs.Map.{reads, handled}
+use Rattle.maps.specs.Sent.{Numbers}
+use Rattle.maps.specs.Calls.{Call, byTurn, byMap, asked, reported, told, askedBy}
+use Rattle.maps.proofs.Sent.{first-fits, rest-fit}
+use Rattle.maps.proofs.Calls.{houses, past, tells, calls-are-requests}
 use Rattle.serial.specs.Demand.{trace, Demand3}
 use Rattle.serial.proofs.Demand.{trace-append, demand}
-use Rattle.serial_bytes.specs.Bytes.{Given, taken, afterTurns, exchanged, events, Bytes, InBytes, Demand3OverBytes, OverBytes}
+use Rattle.serial_bytes.specs.Bytes.{exchanged, events, Bytes, Sized, InBytes, Demand3OverBytes, OverBytes}
 use Rattle.serial_bytes.proofs.Range.{Fits, step-fits, opening-fits, request-fits}
 
 pub bytes-drop : (n : ℕ) (b : List ℕ) → Bytes b → Bytes (drop n b)
@@ -33,46 +37,62 @@ drop-reply : (r : Reply) (rest : List ℕ) → drop 16 (replyBytes r ++ rest) �
 unfolding replyBytes
 drop-reply r rest = refl
 
--- ONE TURN
+-- REQUESTS WHOSE NUMBERS FIT THEIR BYTES
 
-turn-fits : (n : ℕ) (h : House) (input : List ℕ) → Fits h → Bytes input → Fits (housed n h input)
-unfolding requests finally
-turn-fits zero h input f s = f
-turn-fits (suc n) h input f s = turn-fits n (stepped h (requestAt input 0) .house) (drop 12 input) (step-fits f _ (request-fits input s) .0) (bytes-drop 12 input s)
+AllFit : List Request → Type 0
+AllFit [] = Unit {0}
+AllFit (q ∷ qs) = FitRequest q × AllFit qs
 
-pub turn-trace : (n : ℕ) (h : House) (input rest : List ℕ) → Fits h → Bytes input → exchanged n input (wired (replies h (requests n input)) ++ rest) ≡ trace h (requests n input)
-unfolding exchanged requests wired replies trace
-turn-trace zero h input rest f s = refl
-turn-trace (suc n) h input rest f s =
-    let o = stepped h (requestAt input 0) in
-    let k = step-fits f (requestAt input 0) (request-fits input s) in
-    let more = wired (replies (o .house) (requests n (drop 12 input))) in
+fits-after : (h : House) (qs : List Request) → Fits h → AllFit qs → Fits (finally h qs)
+unfolding AllFit finally
+fits-after h [] f s = f
+fits-after h (q ∷ qs) f s = fits-after (stepped h q .house) qs (step-fits f q (s .0) .0) (s .1)
+
+traced : (h : House) (qs : List Request) (rest : List ℕ) → Fits h → AllFit qs → exchanged qs (wired (replies h qs) ++ rest) ≡ trace h qs
+unfolding AllFit exchanged wired replies trace
+traced h [] rest f s = refl
+traced h (q ∷ qs) rest f s =
+    let o = stepped h q in
+    let k = step-fits f q (s .0) in
+    let more = wired (replies (o .house) qs) in
     rw (append-assoc (replyBytes (o .reply)) more rest, reply-first (o .reply) (more ++ rest) (k .1), drop-reply (o .reply) (more ++ rest))
-    (ap (λ l. (requestAt input 0, o .reply) ∷ l) (turn-trace n (o .house) (drop 12 input) rest (k .0) (bytes-drop 12 input s)))
+    (ap (λ l. (q, o .reply) ∷ l) (traced (o .house) qs rest (k .0) (s .1)))
 
--- ALL TURNS
+requests-fit : (n : ℕ) (input : List ℕ) → Bytes input → AllFit (requests n input)
+unfolding AllFit requests
+requests-fit zero input s = tt
+requests-fit (suc n) input s = (request-fits input s, requests-fit n (drop 12 input) (bytes-drop 12 input s))
 
-asked : House → List Given → List Request
-asked h [] = []
-asked h (g ∷ gs) = requests (taken h g .count) (g .input) ++ asked (taken h g .house) gs
+reads-fit : (level ticket : ℕ) (items : List ℕ) (n : ℕ) → Numbers ticket items → AllFit (reads level ticket (take n items))
+unfolding AllFit
+reads-fit level ticket items zero s = tt
+reads-fit level ticket [] (suc n) s = tt
+reads-fit level ticket (i ∷ items) (suc n) s = (first-fits level s, reads-fit level ticket items n (rest-fit s))
 
-after-asked : (h : House) (gs : List Given) → afterTurns h gs ≡ finally h (asked h gs)
-unfolding afterTurns asked finally turned
-after-asked h [] = refl
-after-asked h (g ∷ gs) = after-asked (taken h g .house) gs ∙ sym (finally-append h (requests (taken h g .count) (g .input)) (asked (taken h g .house) gs))
+asked-fit : (c : Call) → Sized c → AllFit (asked c)
+asked-fit (byTurn input room most) s = requests-fit (share most input room) input s
+asked-fit (byMap level ticket items room) s = reads-fit level ticket items (handled items room) s
 
-events-asked : (h : House) (gs : List Given) → Fits h → InBytes gs → events h gs ≡ trace h (asked h gs)
-unfolding events asked trace InBytes turned answered
+-- n requests of an input
+pub turn-trace : (n : ℕ) (h : House) (input rest : List ℕ) → Fits h → Bytes input → exchanged (requests n input) (wired (replies h (requests n input)) ++ rest) ≡ trace h (requests n input)
+turn-trace n h input rest f s = traced h (requests n input) rest f (requests-fit n input s)
+
+-- ALL CALLS
+
+events-asked : (h : House) (cs : List Call) → Fits h → InBytes cs → events h cs ≡ trace h (askedBy cs)
+unfolding events askedBy trace InBytes
 events-asked h [] f b = refl
-events-asked h (g ∷ gs) f b =
-    let n = share (g .most) (g .input) (g .room) in
-    ap₂ _++_ (turn-trace n h (g .input) (drop (n * 16) (g .room)) f (b .0)) (events-asked (taken h g .house) gs (turn-fits n h (g .input) f (b .0)) (b .1))
-    ∙ sym (trace-append h (requests n (g .input)) (asked (taken h g .house) gs))
+events-asked h (c ∷ cs) f b =
+    let qs = asked c in
+    let s = asked-fit c (b .0) in
+    let here : exchanged qs (told h c) ≡ trace h qs = rw (tells h c) (traced h qs (past h c) f s) in
+    let then : events (reported h c .house) cs ≡ trace (finally h qs) (askedBy cs) = rw (houses h c) (events-asked (finally h qs) cs (fits-after h qs f s) (b .1)) in
+    ap₂ _++_ here then ∙ sym (trace-append h qs (askedBy cs))
 
 -- THE THEOREM
 
 pub over-bytes : OverBytes
 unfolding Demand3OverBytes Demand3
-over-bytes levels gs b =
+over-bytes levels cs b =
     let h = opening levels .house in
-    rw (events-asked h gs (opening-fits levels) b, after-asked h gs) (demand levels (asked h gs))
+    rw (events-asked h cs (opening-fits levels) b, calls-are-requests h cs .1) (demand levels (askedBy cs))

@@ -56,8 +56,8 @@ unfolding serially
 idle es h c t = rw (c, t)
 
 -- the one reply of a refused opening is of no done request
-refused-idle : (m n : ℕ) (asked : List ℕ) → n ≢ 0 → m ≤ 1 → commits (exchanged m asked (refusal n)) ≡ []
-unfolding exchanged commits refusal replyAt replyBytes
+refused-idle : (m n : ℕ) (asked : List ℕ) → n ≢ 0 → m ≤ 1 → commits (exchanged (requests m asked) (refusal n)) ≡ []
+unfolding exchanged requests commits refusal replyAt replyBytes
 refused-idle zero n asked d b = refl
 refused-idle (suc zero) n asked d b = rw (ne-eqb n 0 d)
 refused-idle (suc (suc m)) n asked d b = absurd (omega arith)
@@ -79,7 +79,7 @@ opened-equal input levels s =
     let asked = drop (announced input + 1) input in
     let n = length asked / 12 in
     let all : min n (length (wired (replies h (requests n asked))) / 16) ≡ n = rw (length-wired h n asked) (omega arith) in
-    let t : exchanged n asked (wired (replies h (requests n asked))) ≡ trace h (requests n asked) = rw (append-nil (wired (replies h (requests n asked)))) at (turn-trace n h asked [] (opening-fits levels) (bytes-drop (announced input + 1) input s)) in
+    let t : exchanged (requests n asked) (wired (replies h (requests n asked))) ≡ trace h (requests n asked) = rw (append-nil (wired (replies h (requests n asked)))) at (turn-trace n h asked [] (opening-fits levels) (bytes-drop (announced input + 1) input s)) in
     rw (all, t, sym (opening-blank levels)) (demand levels (requests n asked))
 
 -- THE THEOREM

@@ -6,6 +6,7 @@ use mathlib.Core.Path.{_≡_}
 use mathlib.Core.List.{List, [], map}
 use lib.ListN.{length, drop, replicate}
 use Rattle.house.specs.declared.House.{House}
+use Rattle.desk.specs.Turn.{requests}
 use Rattle.dialogue.specs.Dialogue.{announced, started}
 use Rattle.dialogue.specs.Pieces.{Piece, joined, conversed, Roomy}
 use Rattle.dialogue.specs.Rounds.{Read, brought, told, Reads, Room}
@@ -17,7 +18,7 @@ use Rattle.serial_bytes.specs.Bytes.{exchanged, Bytes}
 unfoldable pub seen : List ℕ → List ℕ → List Event
 seen input output =
     let asked = drop (announced input + 1) input in
-    exchanged (min (length asked / 12) (length output / 16)) asked output
+    exchanged (requests (min (length asked / 12) (length output / 16)) asked) output
 
 -- the plain table at an opening, done or refused: "both 0 at opening"
 abbrev pub blankTable : Table
