@@ -19,8 +19,8 @@ size_t desk_fresh_turn_in_place(const uint8_t *levels, size_t levels_len, const 
                                 size_t requests_len, uint8_t *replies, size_t replies_len, size_t most);
 
 // Opens a house, serves a turn of all of `before` in it, reads the map of `items` (CR 2), and serves a turn of all of `after`, which
-// shows what the map left in the house; gives the count of items handled. The turns run as far as whole requests and whole reply
-// places allow.
+// shows what the map left in the house; gives the count of items handled. The replies of the turns go to `earlier` and `later`, as
+// far as whole requests and whole reply places allow.
 size_t desk_fresh_map(const uint8_t *levels, size_t levels_len,
                       const uint8_t *before, size_t before_len, uint8_t *earlier, size_t earlier_len,
                       uint8_t level, uint32_t ticket, const uint16_t *items, size_t items_len,

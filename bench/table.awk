@@ -42,7 +42,7 @@ function figures(what, figure,    d, m, line, mix, desk) {
 }
 # Of one call, less the same call without reads, a read's share.
 function per_read(unit, way, base) { return (call[unit, way] - call[unit, base]) / read }
-function maps(    u, k, line, rule, unit, plain, single, map, units, heads, rows) {
+function maps(    u, line, rule, unit, plain, single, map, units, heads, rows) {
     split("time instructions x86_64", units, " ")
     split("ns,instructions,x86-64 instructions", heads, ",")
     for (u = 1; u <= 3; u++) {

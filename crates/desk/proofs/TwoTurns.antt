@@ -2,17 +2,18 @@
 -- Assumes nothing.
 use Prim.Native.Nat.{ℕ, zero, suc, _+_, _-_, _*_, _/_, _<_, _≤_, min}
 use native.Mathlib.Omega.{arith}
-use mathlib.Core.Path.{_≡_, refl, sym, ap₂}
+use mathlib.Core.Path.{_≡_, refl, sym, ap, ap₂, _∙_}
 use mathlib.Core.List.{List, _∷_, _++_, append-assoc}
 use lib.ListN.{length, getD, take, drop, length-append, length-drop, List·getD-append}
 use lib.Seq.{take-at, drop-at, drop-drop, drop-append-le}
 use Rattle.house.specs.declared.House.{House}
-use Rattle.house.specs.Run.{replies}
+use Rattle.house.specs.declared.Request.{Request}
+use Rattle.house.specs.Run.{finally, replies}
 use Rattle.house.proofs.Runs.{finally-append}
 use Rattle.wire.specs.Wire.{requestAt}
 use Rattle.desk.specs.Turn.{requests, wired, share, housed, written, turned, answered}
 use Rattle.desk.specs.TwoTurns.{GoesOn, InParts}
-use Rattle.desk.proofs.Laws.{requests-add, length-wired, replied-append}
+use Rattle.desk.proofs.Laws.{requests-add, length-requests, length-replied, replied-append}
 
 -- what is left for the second turn
 left12 : (x c : ℕ) → (x - c * 12) / 12 ≡ x / 12 - c
@@ -35,29 +36,35 @@ shares a b input room =
     rw (length-drop (c * 12) input, length-drop (c * 16) room, left12 (length input) c, left16 (length room) c, least-less (length input / 12) (length room / 16) c)
     (least-add a b x)
 
+-- Requests were answered into lent bytes, n of them: what is written stays, what is past it is lent on, and others are answered there
+module _ (h : House) (qs : List Request) (n : ℕ) (many : length qs ≡ n) (room : List ℕ) where
+  long : length (wired (replies h qs)) ≡ n * 16
+  long = length-replied h qs ∙ ap (λ k. k * 16) many
+
+  pub stays : take (n * 16) (wired (replies h qs) ++ drop (n * 16) room) ≡ wired (replies h qs)
+  stays = take-at (wired (replies h qs)) (drop (n * 16) room) (n * 16) long
+
+  pub lent : drop (n * 16) (wired (replies h qs) ++ drop (n * 16) room) ≡ drop (n * 16) room
+  lent = drop-at (wired (replies h qs)) (drop (n * 16) room) (n * 16) long
+
+  pub written-on : (rs : List Request) (m : ℕ) → wired (replies h (qs ++ rs)) ++ drop ((n + m) * 16) room ≡ wired (replies h qs) ++ (wired (replies (finally h qs) rs) ++ drop (m * 16) (drop (n * 16) room))
+  written-on rs m =
+      let e : (n + m) * 16 ≡ n * 16 + m * 16 = omega arith in
+      rw (replied-append h qs rs, drop-drop (m * 16) (n * 16) room, e) (append-assoc (wired (replies h qs)) _ _)
+
 module _ (h : House) (input room : List ℕ) (n m : ℕ) where
   housed-add : housed (n + m) h input ≡ housed m (housed n h input) (drop (n * 12) input)
   housed-add = rw (requests-add n m input) (finally-append h (requests n input) (requests m (drop (n * 12) input)))
 
-  -- the reply bytes before the second turn's, and those lent to it
-  before : take (n * 16) (written n h input room) ≡ wired (replies h (requests n input))
-  before = take-at (wired (replies h (requests n input))) (drop (n * 16) room) (n * 16) (length-wired h n input)
-
-  past : drop (n * 16) (written n h input room) ≡ drop (n * 16) room
-  past = drop-at (wired (replies h (requests n input))) (drop (n * 16) room) (n * 16) (length-wired h n input)
-
   written-add : written (n + m) h input room ≡ wired (replies h (requests n input)) ++ written m (housed n h input) (drop (n * 12) input) (drop (n * 16) room)
-  written-add =
-      let e : (n + m) * 16 ≡ n * 16 + m * 16 = omega arith in
-      rw (requests-add n m input, replied-append h (requests n input) (requests m (drop (n * 12) input)), drop-drop (m * 16) (n * 16) room, e)
-      (append-assoc (wired (replies h (requests n input))) _ _)
+  written-add = rw (requests-add n m input) (written-on h (requests n input) n (length-requests n input) room (requests m (drop (n * 12) input)) m)
 
 pub goes-on : GoesOn
 unfolding turned answered
 goes-on h input room a b =
     let n = share a input room in
     let m = share b (drop (n * 12) input) (drop (n * 16) room) in
-    rw (before h input room n 0, past h input room n 0, sym (shares a b input room), housed-add h input room n m, written-add h input room n m)
+    rw (stays h (requests n input) n (length-requests n input) room, lent h (requests n input) n (length-requests n input) room, sym (shares a b input room), housed-add h input room n m, written-add h input room n m)
 
 -- what comes after k whole requests does not touch them
 

@@ -28,11 +28,11 @@ unfolding turned mapped
 houses h (byTurn input room most) = refl
 houses h (byMap level ticket items room) = refl
 
-pub past : House → Call → List ℕ
-past h (byTurn input room most) = drop (share most input room * 16) room
-past h (byMap level ticket items room) = drop (handled items room * 16) room
+pub past : Call → List ℕ
+past (byTurn input room most) = drop (share most input room * 16) room
+past (byMap level ticket items room) = drop (handled items room * 16) room
 
-pub tells : (h : House) (c : Call) → told h c ≡ wired (replies h (asked c)) ++ past h c
+pub tells : (h : House) (c : Call) → told h c ≡ wired (replies h (asked c)) ++ past c
 unfolding answered filled past
 tells h (byTurn input room most) = refl
 tells h (byMap level ticket items room) = refl
@@ -45,7 +45,7 @@ calls-are-requests h [] = (refl, refl)
 calls-are-requests h (c ∷ cs) =
     let qs = asked c in
     let replied = wired (replies h qs) in
-    let first : take (reported h c .count * 16) (told h c) ≡ replied = rw (tells h c) (take-at replied (past h c) (reported h c .count * 16) (length-replied h qs ∙ ap (λ k. k * 16) (sym (counts h c)))) in
+    let first : take (reported h c .count * 16) (told h c) ≡ replied = rw (tells h c) (take-at replied (past c) (reported h c .count * 16) (length-replied h qs ∙ ap (λ k. k * 16) (sym (counts h c)))) in
     let rest = calls-are-requests (finally h qs) cs in (
       rw (first, houses h c, rest .0) (sym (replied-append h qs (askedBy cs))),
       rw (houses h c, rest .1) (sym (finally-append h qs (askedBy cs))),

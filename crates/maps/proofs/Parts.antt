@@ -3,9 +3,9 @@
 use Prim.Native.Nat.{ℕ, zero, suc, _+_, _-_, _*_, _/_, _^_, _<_, _≤_, min}
 use native.Mathlib.Omega.{arith}
 use mathlib.Core.Path.{_≡_, refl, sym, ap, _∙_}
-use mathlib.Core.List.{List, [], _∷_, _++_, append-assoc, append-nil, map-append}
+use mathlib.Core.List.{List, [], _∷_, _++_, append-nil, map-append}
 use lib.ListN.{length, take, drop, length-take, length-drop, length-map, drop-of-length-le}
-use lib.Seq.{length-take-le, take-all, take-add, take-take, take-at, drop-at, drop-drop}
+use lib.Seq.{length-take-le, take-all, take-add, take-take, take-at}
 use borrow.Rule.Slice.PartMut.{putMid}
 use mir.Syntax.{w64}
 use mir.Val.{Fits}
@@ -15,8 +15,8 @@ use Rattle.house.specs.Run.{finally, replies}
 use Rattle.house.proofs.Runs.{finally-append}
 use Rattle.desk.specs.declared.Served.{Served}
 use Rattle.desk.specs.Turn.{requests, wired, share, turned, answered}
-use Rattle.desk.proofs.Laws.{requests-add, length-requests, length-replied, replied-append}
-use Rattle.desk.proofs.TwoTurns.{left16}
+use Rattle.desk.proofs.Laws.{requests-add, length-requests}
+use Rattle.desk.proofs.TwoTurns.{left16, stays, lent, written-on}
 use Rattle.maps.specs.Map.{readOf, reads, handled, mapped, filled}
 
 -- ONE PART: a turn on its requests is its map
@@ -42,10 +42,6 @@ one-part level ticket items h room b whole asks t out served =
     let asked : requests m b ≡ reads level ticket (take m part) = requests-fewer m (min 64 (length items)) b small ∙ ap (take m) asks ∙ reads-take level ticket part m in
     (served .0 ∙ rw (count, asked), served .1 ∙ rw (count, asked))
 
--- and of a list that has no more
-pub short-list : (level ticket : ℕ) (items : List ℕ) (h : House) (room : List ℕ) → length items ≤ 64 → (t : Served) (out : List ℕ) → (t ≡ mapped h level ticket (take 64 items) room) × (out ≡ filled h level ticket (take 64 items) room) → (t ≡ mapped h level ticket items room) × (out ≡ filled h level ticket items room)
-short-list level ticket items h room l t out = rw (take-all 64 items l) (λ e. e)
-
 -- PART AFTER PART
 
 -- the first n items read: the house after them, and the reply bytes
@@ -59,16 +55,8 @@ module _ (level ticket : ℕ) (items : List ℕ) (n : ℕ) (h : House) where
   abbrev pub writtenAt : List ℕ → List ℕ
   writtenAt room = wired (replies h old) ++ drop (n * 16) room
 
-  -- what was written stays, and what is past it is lent to the next part
-  module _ (room : List ℕ) (within : n ≤ length items) where
-    long : length (wired (replies h old)) ≡ n * 16
-    long = length-replied h old ∙ rw (length-map (take n items) (readOf level ticket), length-take-le n items within)
-
-    stays : take (n * 16) (writtenAt room) ≡ wired (replies h old)
-    stays = take-at (wired (replies h old)) (drop (n * 16) room) (n * 16) long
-
-    lent : drop (n * 16) (writtenAt room) ≡ drop (n * 16) room
-    lent = drop-at (wired (replies h old)) (drop (n * 16) room) (n * 16) long
+  many : n ≤ length items → length old ≡ n
+  many within = length-map (take n items) (readOf level ticket) ∙ length-take-le n items within
 
   -- m more
   module _ (m : ℕ) where
@@ -81,10 +69,8 @@ module _ (level ticket : ℕ) (items : List ℕ) (n : ℕ) (h : House) where
     housed-add : finally housedAt new ≡ finally h (reads level ticket (take (n + m) items))
     housed-add = sym (rw both (finally-append h old new))
 
-    written-add : (room : List ℕ) → wired (replies h old) ++ (wired (replies housedAt new) ++ drop (m * 16) (drop (n * 16) room)) ≡ wired (replies h (reads level ticket (take (n + m) items))) ++ drop ((n + m) * 16) room
-    written-add room =
-        let e : (n + m) * 16 ≡ n * 16 + m * 16 = omega arith in
-        rw (both, replied-append h old new, drop-drop (m * 16) (n * 16) room, e) (sym (append-assoc (wired (replies h old)) _ _))
+    written-add : (room : List ℕ) → n ≤ length items → wired (replies h old) ++ (wired (replies housedAt new) ++ drop (m * 16) (drop (n * 16) room)) ≡ wired (replies h (reads level ticket (take (n + m) items))) ++ drop ((n + m) * 16) room
+    written-add room within = sym (rw both (written-on h old n (many within) room new m))
 
 -- The first n items are read: the house is h, and the reply bytes are out
 pub record ReadTo (level ticket : ℕ) (items : List ℕ) (h₀ : House) (room out : List ℕ) (h : House) (n : ℕ) : Type 0 where
@@ -108,7 +94,7 @@ module _ {level ticket : ℕ} {items : List ℕ} {h₀ : House} {room out : List
   lent-is : rest ≡ drop (n * 16) room
   lent-is =
       take-all (length out - n * 16) (drop (n * 16) out) (rw (length-drop (n * 16) out) (omega arith))
-      ∙ rw (s .written) (lent level ticket items n h₀ room (s .listed))
+      ∙ rw (s .written) (lent h₀ (reads level ticket (take n items)) n (many level ticket items n h₀ (s .listed)) room)
 
   module _ {t : Served} (maps : t ≡ mapped h level ticket part rest) where
     counts : t .count ≡ min (min 64 left) (length room / 16 - n)
@@ -145,9 +131,9 @@ module _ {level ticket : ℕ} {items : List ℕ} {h₀ : House} {room out : List
       writes =
           let m = t .count in
           let e : given ≡ wired (replies h (reads level ticket (take m part))) ++ drop (m * 16) rest = rw (fills, maps) in
-          let kept : take (n * 16) out ≡ wired (replies h₀ (reads level ticket (take n items))) = rw (s .written) (stays level ticket items n h₀ room (s .listed)) in
+          let kept : take (n * 16) out ≡ wired (replies h₀ (reads level ticket (take n items))) = rw (s .written) (stays h₀ _ n (many level ticket items n h₀ (s .listed)) room) in
           let none : drop (length out - n * 16) (drop (n * 16) out) ≡ [] = drop-of-length-le (drop (n * 16) out) {i = length out - n * 16} (rw (length-drop (n * 16) out) (omega arith)) in
-          rw (none, append-nil given, kept, e, lent-is, next, s .housed) (written-add level ticket items n h₀ m room)
+          rw (none, append-nil given, kept, e, lent-is, next, s .housed) (written-add level ticket items n h₀ m room (s .listed))
 
       pub part-read : {after : List ℕ} → after ≡ putMid (n * 16) (length out - n * 16) out given → length after ≡ length room → ReadTo level ticket items h₀ room after (t .house) (n + t .count)
       part-read e l = record { listed = within .0; placed = within .1; same = l; housed = houses; written = e ∙ writes }

@@ -7,29 +7,18 @@ ghost use lib.ListN.{length, take};
 ghost use lib.Seq.{paste};
 ghost use Rattle.desk.specs.Turn.{requests};
 ghost use Rattle.wire.specs.Wire.{requestBytes};
-ghost use Rattle.maps.specs.Map.{readOf, reads, mapped, filled};
+ghost use Rattle.maps.specs.Map.{reads, mapped, filled};
 use desk::Served;
 use desk::turn_in_place;
 use house::House;
+use house::Request;
+use wire::encode_request;
 
-fn put_read(b: &mut [u8], at: usize, level: u8, ticket: u32, item: u16)
+fn put_request(b: &mut [u8], at: usize, q: Request)
     requires { ⌜ at + 12 ≤ length (now b) ⌝ }
-    ensures { λ _. ⌜ now (b .exit) ≡ paste (now (b .entry)) at (requestBytes (readOf level ticket item)) 12 ⌝ }
+    ensures { λ _. ⌜ now (b .exit) ≡ paste (now (b .entry)) at (requestBytes q) 12 ⌝ }
 {
-    let x = [
-        1,
-        level,
-        (item % 256) as u8,
-        (item / 256 % 256) as u8,
-        (ticket % 256) as u8,
-        (ticket / 256 % 256) as u8,
-        (ticket / 65536 % 256) as u8,
-        (ticket / 16777216 % 256) as u8,
-        0,
-        0,
-        0,
-        0,
-    ];
+    let x = encode_request(q);
     for k in 0..12 {
         b[at + k] = x[k];
     }
@@ -44,7 +33,15 @@ fn put_reads(b: &mut [u8], level: u8, ticket: u32, items: &[u16])
         if items.len() <= k {
             return;
         }
-        put_read(b, k * 12, level, ticket, items[k]);
+        let item = items[k];
+        let read = Request {
+            operation: 1,
+            level,
+            item,
+            ticket,
+            value: 0,
+        };
+        put_request(b, k * 12, read);
     }
 }
 
@@ -62,10 +59,6 @@ pub fn read_map(h: House, level: u8, ticket: u32, items: &[u16], replies: &mut [
     ensures { λ r. ⌜ (r ≡ mapped h level ticket (now (items .entry)) (now (replies .entry)))
         × (now (replies .exit) ≡ filled h level ticket (now (items .entry)) (now (replies .entry))) ⌝ }
 {
-    // A house has no more items. The turn's house is handed on as it is, where the parts below cost a copy each.
-    if items.len() <= 64 {
-        return read_part(h, level, ticket, items, replies);
-    }
     let mut h = h;
     let mut n = 0;
     while n < items.len() {

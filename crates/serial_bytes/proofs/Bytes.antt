@@ -85,7 +85,7 @@ events-asked h [] f b = refl
 events-asked h (c ∷ cs) f b =
     let qs = asked c in
     let s = asked-fit c (b .0) in
-    let here : exchanged qs (told h c) ≡ trace h qs = rw (tells h c) (traced h qs (past h c) f s) in
+    let here : exchanged qs (told h c) ≡ trace h qs = rw (tells h c) (traced h qs (past c) f s) in
     let then : events (reported h c .house) cs ≡ trace (finally h qs) (askedBy cs) = rw (houses h c) (events-asked (finally h qs) cs (fits-after h qs f s) (b .1)) in
     ap₂ _++_ here then ∙ sym (trace-append h qs (askedBy cs))
 

@@ -2,7 +2,7 @@
 
 ghost use mathlib.Core.Path.{_≡_};
 ghost use Prim.Native.Nat.{_+_, _*_};
-ghost use Rattle.wire.specs.Wire.{requestAt, replyBytes};
+ghost use Rattle.wire.specs.Wire.{requestAt, requestBytes, replyBytes};
 use house::Reply;
 use house::Request;
 
@@ -28,6 +28,25 @@ pub fn decode(b: [u8; 12]) -> Request
         ticket: four(two(b[4], b[5]), two(b[6], b[7])),
         value: four(two(b[8], b[9]), two(b[10], b[11])),
     }
+}
+
+pub fn encode_request(q: Request) -> [u8; 12]
+    ensures { λ b. ⌜ b ≡ requestBytes q ⌝ }
+{
+    [
+        q.operation,
+        q.level,
+        (q.item % 256) as u8,
+        (q.item / 256 % 256) as u8,
+        (q.ticket % 256) as u8,
+        (q.ticket / 256 % 256) as u8,
+        (q.ticket / 65536 % 256) as u8,
+        (q.ticket / 16777216 % 256) as u8,
+        (q.value % 256) as u8,
+        (q.value / 256 % 256) as u8,
+        (q.value / 65536 % 256) as u8,
+        (q.value / 16777216 % 256) as u8,
+    ]
 }
 
 pub fn encode(r: Reply) -> [u8; 16]

@@ -26,17 +26,17 @@ same-length c = search needs
 returns : tie.Need-returns Inv-loop μ-loop
 returns c = search whole-list
 
-mul-put-read : tie.Need-mul-put-read Inv-loop μ-loop
-mul-put-read c = search needs
+mul-item : tie.Need-mul-item Inv-loop μ-loop
+mul-item c = search needs
 
-mul-put-read-2 : tie.Need-mul-put-read-2 Inv-loop μ-loop
-mul-put-read-2 c = search needs
+shared-slice-read-item : tie.Need-shared-slice-read-item Inv-loop μ-loop
+shared-slice-read-item c = search needs
 
-shared-slice-read-put-read : tie.Need-shared-slice-read-put-read Inv-loop μ-loop
-shared-slice-read-put-read c = search needs
+mul-put-request : tie.Need-mul-put-request Inv-loop μ-loop
+mul-put-request c = search needs
 
-put-read-requires : tie.Need-put-read-requires Inv-loop μ-loop
-put-read-requires c κs = search needs
+put-request-requires : tie.Need-put-request-requires Inv-loop μ-loop
+put-request-requires c κs = search needs
 
 add-k : tie.Need-add-k Inv-loop μ-loop
 add-k c = search needs
@@ -65,10 +65,10 @@ put-reads-spec =
     loop-holds
     same-length
     returns
-    mul-put-read
-    mul-put-read-2
-    shared-slice-read-put-read
-    put-read-requires
+    mul-item
+    shared-slice-read-item
+    mul-put-request
+    put-request-requires
     add-k
     loop-less
     loop-again

@@ -7,7 +7,7 @@ use lib.ListN.{length}
 use borrow.Author.Needs.{needs}
 use Rattle.house.specs.Run.{finally, replies}
 use Rattle.desk.specs.Turn.{wired}
-use Rattle.maps.proofs.Parts.{ReadTo, short-list, part-less, part-counts, part-read, list-ended, places-ended}
+use Rattle.maps.proofs.Parts.{ReadTo, part-less, part-counts, part-read, list-ended, places-ended}
 use Rattle.maps.proofs.read_map.Statement.{statement}
 use Rattle.maps.proofs.read_map.Tie as tie
 
@@ -17,26 +17,15 @@ Inv-loop level ticket items replies₀ h₀ n₀ replies h n = ReadTo level tick
 abbrev μ-loop : tie.MeasureT-loop
 μ-loop level ticket items replies₀ h₀ n₀ replies h n = length items - n
 
-read-part-requires : tie.Need-read-part-requires Inv-loop μ-loop
-read-part-requires c κs = search needs
+loop-holds : tie.Need-loop-holds Inv-loop μ-loop
+unfolding finally replies wired
+loop-holds c = record { listed = omega arith; placed = omega arith; same = refl; housed = refl; written = refl }
 
 same-length : tie.Need-same-length Inv-loop μ-loop
 same-length c = search needs
 
 returns : tie.Need-returns Inv-loop μ-loop
-returns c =
-    let p : tie.After-read-part Inv-loop μ-loop = search in
-    short-list _ _ _ _ _ (search) _ _ (p .read-part .ensures)
-
-loop-holds : tie.Need-loop-holds Inv-loop μ-loop
-unfolding finally replies wired
-loop-holds c = record { listed = omega arith; placed = omega arith; same = refl; housed = refl; written = refl }
-
-same-length-2 : tie.Need-same-length-2 Inv-loop μ-loop
-same-length-2 c = search needs
-
-returns-2 : tie.Need-returns-2 Inv-loop μ-loop
-returns-2 c = let r : tie.At-loop Inv-loop μ-loop = search in places-ended (r .loop .inv) (search)
+returns c = let r : tie.At-loop Inv-loop μ-loop = search in places-ended (r .loop .inv) (search)
 
 mul-at : tie.Need-mul-at Inv-loop μ-loop
 mul-at c = search needs
@@ -62,32 +51,32 @@ part-read-part-start-2 c = search needs
 part-read-part-end-2 : tie.Need-part-read-part-end-2 Inv-loop μ-loop
 part-read-part-end-2 c = search needs
 
-read-part-requires-2 : tie.Need-read-part-requires-2 Inv-loop μ-loop
-read-part-requires-2 c κs = search needs
+read-part-requires : tie.Need-read-part-requires Inv-loop μ-loop
+read-part-requires c κs = search needs
 
 add-n : tie.Need-add-n Inv-loop μ-loop
 add-n c =
     let r : tie.At-loop Inv-loop μ-loop = search in
-    let p : tie.After-read-part2 Inv-loop μ-loop = search in
-    part-counts (r .loop .inv) (p .read-part2 .ensures .0) (let s : tie.Start Inv-loop μ-loop = search in search needs)
+    let p : tie.After-read-part Inv-loop μ-loop = search in
+    part-counts (r .loop .inv) (p .read-part .ensures .0) (let s : tie.Start Inv-loop μ-loop = search in search needs)
 
 loop-less : tie.Need-loop-less Inv-loop μ-loop
 loop-less c =
     let r : tie.At-loop Inv-loop μ-loop = search in
-    let p : tie.After-read-part2 Inv-loop μ-loop = search in
-    part-less (r .loop .inv) (p .read-part2 .ensures .0) (search needs) (search needs)
+    let p : tie.After-read-part Inv-loop μ-loop = search in
+    part-less (r .loop .inv) (p .read-part .ensures .0) (search needs) (search needs)
 
 loop-again : tie.Need-loop-again Inv-loop μ-loop
 loop-again c =
     let r : tie.At-loop Inv-loop μ-loop = search in
-    let p : tie.After-read-part2 Inv-loop μ-loop = search in
-    part-read (r .loop .inv) (p .read-part2 .ensures .0) (p .read-part2 .ensures .1) refl (search needs)
+    let p : tie.After-read-part Inv-loop μ-loop = search in
+    part-read (r .loop .inv) (p .read-part .ensures .0) (p .read-part .ensures .1) refl (search needs)
 
-same-length-3 : tie.Need-same-length-3 Inv-loop μ-loop
-same-length-3 c = search needs
+same-length-2 : tie.Need-same-length-2 Inv-loop μ-loop
+same-length-2 c = search needs
 
-returns-3 : tie.Need-returns-3 Inv-loop μ-loop
-returns-3 c = let r : tie.At-loop Inv-loop μ-loop = search in list-ended (r .loop .inv) (search)
+returns-2 : tie.Need-returns-2 Inv-loop μ-loop
+returns-2 c = let r : tie.At-loop Inv-loop μ-loop = search in list-ended (r .loop .inv) (search)
 
 pub read-map-spec : {M : Type 1} → statement M
 read-map-spec =
@@ -95,12 +84,9 @@ read-map-spec =
     (tie.spec
     Inv-loop
     μ-loop
-    read-part-requires
+    loop-holds
     same-length
     returns
-    loop-holds
-    same-length-2
-    returns-2
     mul-at
     mul-read-part
     sub-read-part
@@ -109,9 +95,9 @@ read-map-spec =
     sub-read-part-2
     part-read-part-start-2
     part-read-part-end-2
-    read-part-requires-2
+    read-part-requires
     add-n
     loop-less
     loop-again
-    same-length-3
-    returns-3)
+    same-length-2
+    returns-2)

@@ -1,38 +1,23 @@
--- After k rounds the first k bytes of the request are pasted over those that were lent, and no other.
+-- After k rounds the first k bytes of the request are pasted over those that were lent, and no other (`copied-in`);
+-- after twelve it is the whole request (`copied-whole`).
 use Prim.Native.Nat.{_-_, _≤_}
 use native.Mathlib.Omega.{arith}
 use mathlib.Core.Path.{_≡_, refl}
 use lib.ListN.{length}
 use lib.Seq.{paste, paste-zero}
 use borrow.Author.Needs.{needs}
-use Rattle.wire.specs.Wire.{requestBytes}
 use Rattle.desk.proofs.Laws.{copied-in, copied-whole}
-use Rattle.maps.proofs.put_read.Statement.{statement}
-use Rattle.maps.proofs.put_read.Tie as tie
+use Rattle.maps.proofs.put_request.Statement.{statement}
+use Rattle.maps.proofs.put_request.Tie as tie
 
 abbrev Inv-loop : tie.InvT-loop
-Inv-loop b₀ at level ticket item x k₀ b k = (k ≤ 12) × (length b ≡ length b₀) × (b ≡ paste b₀ at x k)
+Inv-loop b₀ at x k₀ b k = (k ≤ 12) × (length b ≡ length b₀) × (b ≡ paste b₀ at x k)
 
 abbrev μ-loop : tie.MeasureT-loop
-μ-loop b₀ at level ticket item x k₀ b k = 12 - k
+μ-loop b₀ at x k₀ b k = 12 - k
 
-cast-t9 : tie.Need-cast-t9 Inv-loop μ-loop
-cast-t9 c = search needs
-
-cast-t12 : tie.Need-cast-t12 Inv-loop μ-loop
-cast-t12 c = search needs
-
-cast-t14 : tie.Need-cast-t14 Inv-loop μ-loop
-cast-t14 c = search needs
-
-cast-t17 : tie.Need-cast-t17 Inv-loop μ-loop
-cast-t17 c = search needs
-
-cast-t20 : tie.Need-cast-t20 Inv-loop μ-loop
-cast-t20 c = search needs
-
-cast-t23 : tie.Need-cast-t23 Inv-loop μ-loop
-cast-t23 c = search needs
+encode-request-requires : tie.Need-encode-request-requires Inv-loop μ-loop
+encode-request-requires c κs = search needs
 
 loop-holds : tie.Need-loop-holds Inv-loop μ-loop
 loop-holds c = (omega arith, refl, search paste-zero)
@@ -59,21 +44,15 @@ same-length : tie.Need-same-length Inv-loop μ-loop
 same-length c = search needs
 
 returns : tie.Need-returns Inv-loop μ-loop
-unfolding requestBytes
 returns c = search (copied-whole, needs)
 
-pub put-read-spec : {M : Type 1} → statement M
-put-read-spec =
+pub put-request-spec : {M : Type 1} → statement M
+put-request-spec =
     tie.close
     (tie.spec
     Inv-loop
     μ-loop
-    cast-t9
-    cast-t12
-    cast-t14
-    cast-t17
-    cast-t20
-    cast-t23
+    encode-request-requires
     loop-holds
     array-read-b
     add-b
