@@ -6,13 +6,17 @@ use mathlib.Core.Path.{_≡_, refl}
 use mathlib.Core.Logic.{_≢_}
 use mathlib.Core.Bool.{true, false, not}
 use lib.Dec.{eqb}
-use borrow.Author.Tests.{eq-eqb, ne-eqb, eqb-true, le-leb}
+use borrow.Author.Tests.{eq-eqb, ne-eqb, eqb-true, leb-true, le-leb}
 use Rattle.house.specs.House.{dominates, above}
 use Rattle.house.proofs.Tests.{and-intro, and-right-false, and-no, not-is, not-of}
 
 pub dominates-itself : (a : ℕ) → dominates a a ≡ true
 unfolding dominates
 dominates-itself a = le-leb a a (omega arith)
+
+pub dominates-on : (a b c : ℕ) → dominates a b ≡ true → dominates b c ≡ true → dominates a c ≡ true
+unfolding dominates
+dominates-on a b c d e = le-leb c a (omega (arith, leb-true b a d, leb-true c b e))
 
 pub above-itself : (a : ℕ) → above a a ≡ false
 unfolding above

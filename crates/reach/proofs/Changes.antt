@@ -198,7 +198,7 @@ module _ (cells : List ℕ) (me p i c : ℕ) where
   unfolding certifiedCell convertedCell signalledCell holds
   cell-signalled e q a r = rw (e, ne-eqb p me q, a, r)
 
-  cell-passed : has Write (cellAt cells me i) ≡ true → p ≢ me → (above (levelOf p) (levelOf me) && has Read c) ≡ false → certifiedCell cells me p i c ≡ c
+  pub cell-passed : has Write (cellAt cells me i) ≡ true → p ≢ me → (above (levelOf p) (levelOf me) && has Read c) ≡ false → certifiedCell cells me p i c ≡ c
   unfolding certifiedCell convertedCell signalledCell holds
   cell-passed e q a = rw (e, ne-eqb p me q, a)
 
@@ -312,7 +312,7 @@ module _ {h : House} {me : ℕ} (L : Law h) (m : me < 32) where
   pub freed : isFree (placeAt (left h me .places) me .standing) ≡ true
   freed = rw (left-place (L .sizes) me m)
 
-  left-other : (p i : ℕ) → p < 32 → i < 64 → p ≢ me → cellAt (left h me .cells) p i ≡ cellAt (h .cells) p i
+  pub left-other : (p i : ℕ) → p < 32 → i < 64 → p ≢ me → cellAt (left h me .cells) p i ≡ cellAt (h .cells) p i
   unfolding clearedCell
   left-other p i b a n = left-cell (L .sizes) me p i b a ∙ rw (ne-eqb p me n)
 

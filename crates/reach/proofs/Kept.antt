@@ -115,9 +115,9 @@ record Neat (h h′ : House) (me : ℕ) : Type 0 where
 tidied : {h h′ : House} {me : ℕ} → Law h → Frame h h′ me → me < 32 → Tidy h → Neat h h′ me → Tidy h′
 tidied {h} {h′} {me} L F m T N =
     record {
-      count = rw (same-count F) (T .count);
-      levels = λ i a. rw (same-level F i) (T .levels i a);
-      rows = λ i a c. let c′ : h .count ≤ i = rw (same-count F) at c in N .rows i a c′ ∙ T .rows i a c′;
+      count = rw (same-count h′ h (F .fixed)) (T .count);
+      levels = λ i a. rw (same-level h′ h (F .fixed) i) (T .levels i a);
+      rows = λ i a c. let c′ : h .count ≤ i = rw (same-count h′ h (F .fixed)) at c in N .rows i a c′ ∙ T .rows i a c′;
       pending = λ i a none.
           elim (N .pending i a (none me m)) [
             | inl z ↦ z
@@ -132,7 +132,7 @@ tidied {h} {h′} {me} L F m T N =
       named = λ p b o. elim (same p me) [ inl e ↦ rw e (N .named (rw e at o)) | inr n ↦ rw (F .place p b n) (T .named p b (rw (F .place p b n) at o)) ];
       next = N .next;
       inside = λ p i b a c.
-          let c′ : h .count ≤ i = rw (same-count F) at c in
+          let c′ : h .count ≤ i = rw (same-count h′ h (F .fixed)) at c in
           elim (same p me) [ inl e ↦ rw e (N .inside i a c′) | inr n ↦ F .cell p i b a n .clear (T .inside p i b a c′) ];
     }
 

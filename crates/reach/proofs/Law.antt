@@ -153,15 +153,15 @@ clear-own clear apart issued =
       issued = issued;
     }
 
--- so there are as many items, each at its level
+-- where an opening fixed the same, there are as many items, each at its level
 
-pub same-count : {h h′ : House} {me : ℕ} → Frame h h′ me → h′ .count ≡ h .count
+pub same-count : (h g : House) → fixed h ≡ fixed g → h .count ≡ g .count
 unfolding fixed
-same-count F = ap (λ x. x .0) (F .fixed)
+same-count h g e = ap (λ x. x .0) e
 
-pub same-level : {h h′ : House} {me : ℕ} → Frame h h′ me → (i : ℕ) → itemAt (h′ .items) i .level ≡ itemAt (h .items) i .level
+pub same-level : (h g : House) → fixed h ≡ fixed g → (i : ℕ) → itemAt (h .items) i .level ≡ itemAt (g .items) i .level
 unfolding fixed
-same-level {h} {h′} F i = sym (List·getD-map (λ x. x .level) (h′ .items) i blank) ∙ ap (λ x. getD (x .1) i 0) (F .fixed) ∙ List·getD-map (λ x. x .level) (h .items) i blank
+same-level h g e i = sym (List·getD-map (λ x. x .level) (h .items) i blank) ∙ ap (λ x. getD (x .1) i 0) e ∙ List·getD-map (λ x. x .level) (g .items) i blank
 
 module _ {h h′ : House} {me : ℕ} (L : Law h) (F : Frame h h′ me) where
   pub held-kept : (p i : ℕ) → p < 32 → i < 64 → p ≢ me → held (cellAt (h′ .cells) p i) ≡ held (cellAt (h .cells) p i)
@@ -188,7 +188,7 @@ module _ {h h′ : House} {me : ℕ} (L : Law h) (F : Frame h h′ me) where
   lawful m O =
       record {
         sizes = F .sizes;
-        cells = λ p i b a. rw (same-level F i) (elim (same p me) [ inl e ↦ rw e (O .cells i a) | inr n ↦ other-lawful p i b a n ]);
+        cells = λ p i b a. rw (same-level h′ h (F .fixed) i) (elim (same p me) [ inl e ↦ rw e (O .cells i a) | inr n ↦ other-lawful p i b a n ]);
         sole = λ p q i b c a x y.
             elim (same p me) [
               | inl e ↦ elim (same q me) [ inl f ↦ e ∙ sym f | inr n ↦ clash (sym (held-kept q i c a n) ∙ y) (O .sole q i c a n (rw e at x)) ]
