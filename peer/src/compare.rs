@@ -3,10 +3,10 @@
 use crate::desk::Desk;
 use crate::generator;
 use crate::program::Program;
-use crate::progress::Progress;
-use crate::run::{output_for, Run};
+use crate::progress::each_seed;
+use crate::run::{answer_whole, opened, output_for};
 use crate::stop::Stop;
-use crate::wire::{hex, Reply, Request, REPLY_BYTES, REQUEST_BYTES};
+use crate::wire::{hex, split_header, Reply, Request, REPLY_BYTES, REQUEST_BYTES};
 use crate::words;
 use std::io::Write;
 use std::time::Duration;
@@ -23,14 +23,14 @@ pub enum Inputs {
 }
 
 impl Inputs {
-    fn bytes(&self, seed: u64) -> Vec<u8> {
+    pub fn bytes(&self, seed: u64) -> Vec<u8> {
         match self {
             Inputs::Generated { requests } => generator::input(seed, *requests),
             Inputs::Random => generator::random_bytes(seed),
         }
     }
 
-    fn how_to_make(&self, seed: u64) -> String {
+    pub fn how_to_make(&self, seed: u64) -> String {
         match self {
             Inputs::Generated { requests } => format!("peer gen {seed} {requests}"),
             Inputs::Random => format!("peer gen --random {seed}"),
@@ -45,22 +45,19 @@ pub fn compare(
     count: u64,
     out: &mut impl Write,
 ) -> Result<(), Stop> {
-    let mut progress = Progress::new("compared", count);
     let (mut requests, mut refused) = (0, 0);
-    for done in 0..count {
-        let seed = from.wrapping_add(done);
+    each_seed("compared", from, count, |seed| {
         let input = inputs.bytes(seed);
         let ours = output_for(&input, Desk::answer);
         let explained = |theirs: &[u8]| explain(&input, &ours, theirs);
         compare_one(command, &input, ours.len(), explained)
             .map_err(|stop| stop.on_input_of(&inputs.how_to_make(seed)))?;
-        if opening_is_refused(&input) {
-            refused += 1;
-        } else {
-            requests += ours.len() / REPLY_BYTES;
+        match opened(split_header(&input).0) {
+            None => refused += 1,
+            Some(_) => requests += ours.len() / REPLY_BYTES,
         }
-        progress.tell(done + 1);
-    }
+        Ok(())
+    })?;
     writeln!(
         out,
         "compared {count} inputs, {requests} requests, {refused} refused openings: no difference"
@@ -68,89 +65,93 @@ pub fn compare(
     Ok(())
 }
 
-fn opening_is_refused(input: &[u8]) -> bool {
-    let mut run = Run::new(Desk::answer);
-    run.feed(input);
-    run.desk().is_none()
-}
-
-/// Runs the program on one input. Of what it writes, `due` bytes where all is well, `explain` says
-/// the first difference.
+/// Runs the program on one input and gives what it writes, `due` bytes where all is well; of these
+/// `explain` says the first difference.
 pub fn compare_one(
     command: &str,
     input: &[u8],
     due: usize,
     explain: impl FnOnce(&[u8]) -> Option<String>,
-) -> Result<(), Stop> {
+) -> Result<Vec<u8>, Stop> {
     let mut program = Program::start(command)?;
     program.send_all_and_close(input.to_vec())?;
     let theirs = program.receive_rest(due, PATIENCE).map_err(Stop::Found)?;
     let Some(difference) = explain(&theirs) else {
-        return program.check_end().map_err(Stop::Found);
+        program.check_end().map_err(Stop::Found)?;
+        return Ok(theirs);
     };
     let end = program.failed_end().unwrap_or_default();
     Err(Stop::Found(format!("{}\n{end}", difference.trim_end())))
 }
 
+/// The first byte at which two outputs differ, if they do; it may lie past the end of one.
+pub fn first_difference(one: &[u8], other: &[u8]) -> Option<usize> {
+    let same = one.iter().zip(other).take_while(|(one, other)| one == other).count();
+    (one != other).then_some(same)
+}
+
 /// The first difference in words, if there is one.
 pub fn explain(input: &[u8], ours: &[u8], theirs: &[u8]) -> Option<String> {
-    if ours == theirs {
-        return None;
-    }
-    let same = ours.iter().zip(theirs).take_while(|(one, other)| one == other).count();
+    let same = first_difference(ours, theirs)?;
     let index = same / REPLY_BYTES;
-    let replies = explain_replies(input, index, reply_at(ours, index), reply_at(theirs, index));
+    let (ours, theirs) = (reply_at(ours, index), reply_at(theirs, index));
+    let replies = explain_replies(input, index, ("peer", ours), ("program", theirs));
     Some(format!("the outputs differ at byte {same}\n{replies}"))
 }
 
+/// Who gave a reply, and its bytes.
+pub type Given<'a> = (&'a str, &'a [u8]);
+
 /// Two replies to the request of this index in words, and the house it was asked in.
-pub fn explain_replies(input: &[u8], index: usize, ours: &[u8], theirs: &[u8]) -> String {
+pub fn explain_replies(input: &[u8], index: usize, left: Given, right: Given) -> String {
     let place = words_for_place(input, index);
-    let mut text = format!(
-        "{}\n  the peer:    {}\n  the program: {}\n",
-        place.what,
-        words_for_reply(ours),
-        words_for_reply(theirs),
-    );
-    if let (Some(ours), Some(theirs)) = (whole(ours), whole(theirs)) {
-        let fields = words::differing_fields(("peer", &ours), ("program", &theirs));
-        text += &format!("  they differ in {fields}\n");
+    let width = "the :".len() + left.0.len().max(right.0.len());
+    let line = |name: &str, words: &str| format!("\n  {name:<width$} {words}");
+    let mut text = place.what;
+    if let Some(bytes) = place.bytes {
+        text += &line("bytes:", &bytes);
+    }
+    for (name, reply) in [left, right] {
+        text += &line(&format!("the {name}:"), &words_for_reply(reply));
+    }
+    if let (Some(one), Some(other)) = (whole(left.1), whole(right.1)) {
+        let fields = words::differing_fields((left.0, &one), (right.0, &other));
+        text += &format!("\n  they differ in {fields}");
     }
     if let Some(house) = place.house {
-        text += &format!("the house before it, as the peer sees it:\n{house}");
+        text += &format!("\nthe house before it, as the peer sees it:\n{house}");
     }
     text
 }
 
-/// What a reply answers, and the house it was asked in.
+/// What a reply answers, in words and in bytes, and the house it was asked in.
 struct Place {
     what: String,
+    bytes: Option<String>,
     house: Option<String>,
 }
 
 fn words_for_place(input: &[u8], index: usize) -> Place {
-    let mut run = Run::new(Desk::answer);
-    let header_bytes = 1 + usize::from(input.first().copied().unwrap_or(0));
-    let (header, requests) = input.split_at(header_bytes.min(input.len()));
-    run.feed(header);
-    if run.desk().is_none() {
-        let shown = if header.is_empty() { "no bytes".to_string() } else { hex(header) };
-        return Place { what: format!("the opening is refused: {shown}"), house: None };
-    }
-    let start = (index * REQUEST_BYTES).min(requests.len());
-    run.feed(&requests[..start]);
-    let what = match requests[start..].first_chunk::<REQUEST_BYTES>() {
-        Some(bytes) => {
-            let request = words::request(&Request::from_bytes(bytes));
-            format!(
-                "request {} (the first is 1): {request}\n  bytes:       {}",
-                index + 1,
-                hex(bytes)
-            )
-        }
-        None => format!("after the last whole request ({index} were answered)"),
+    let (header, requests) = split_header(input);
+    let Some(mut desk) = opened(header) else {
+        return Place { what: refused_opening(header), bytes: None, house: None };
     };
-    Place { what, house: run.desk().map(words::lock_table) }
+    let start = (index * REQUEST_BYTES).min(requests.len());
+    answer_whole(&mut desk, Desk::answer, &requests[..start]);
+    let house = Some(words::lock_table(&desk));
+    let Some(bytes) = requests[start..].first_chunk::<REQUEST_BYTES>() else {
+        let what = format!("after the last whole request ({index} were answered)");
+        return Place { what, bytes: None, house };
+    };
+    let request = words::request(&Request::from_bytes(bytes));
+    let what = format!("request {} (the first is 1): {request}", index + 1);
+    Place { what, bytes: Some(hex(bytes)), house }
+}
+
+/// The header in words, of an input that opens no house.
+pub fn refused_opening(header: &[u8]) -> String {
+    let shown = if header.is_empty() { "no bytes".to_string() } else { hex(header) };
+    format!("the opening is refused: {shown}")
 }
 
 pub fn reply_at(output: &[u8], index: usize) -> &[u8] {

@@ -6,7 +6,7 @@ use crate::generator::{header_of, Generator};
 use crate::program::Program;
 use crate::stop::Stop;
 use crate::talk::{DAY_INPUT, DAY_OUTPUT};
-use crate::wire::{hex, Operation, Reply, Request, REPLY_BYTES, REQUEST_BYTES};
+use crate::wire::{hex, requests_in, Operation, Reply, Request, REPLY_BYTES, REQUEST_BYTES};
 use crate::words;
 use std::io::Write;
 use std::time::Duration;
@@ -113,15 +113,6 @@ fn worked_day(command: &str) -> Result<u64, Stop> {
         }
     }
     client.leave()
-}
-
-fn requests_in(mut bytes: &[u8]) -> Vec<Request> {
-    let mut requests = Vec::new();
-    while let Some((request, rest)) = bytes.split_first_chunk() {
-        requests.push(Request::from_bytes(request));
-        bytes = rest;
-    }
-    requests
 }
 
 fn in_pieces(command: &str) -> Result<u64, Stop> {
@@ -260,10 +251,7 @@ fn cut_short(command: &str) -> Result<u64, Stop> {
 pub fn converse(command: &str, out: &mut impl Write) -> Result<(), Stop> {
     let mut asked = 0;
     for (name, scene) in SCENES {
-        asked += scene(command).map_err(|stop| match stop {
-            Stop::Found(what) => Stop::Found(format!("{name}: {what}")),
-            other => other,
-        })?;
+        asked += scene(command).map_err(|stop| stop.at(name))?;
         writeln!(out, "{name}: as it should be")?;
         out.flush()?;
     }

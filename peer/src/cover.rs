@@ -2,10 +2,10 @@
 
 use crate::desk::{Desk, Place, Refusal, Standing};
 use crate::generator;
-use crate::progress::Progress;
+use crate::progress::each_seed;
 use crate::run::Run;
 use crate::stop::Stop;
-use crate::wire::{Operation, Reply, Request, REPLY_BYTES, REQUEST_BYTES};
+use crate::wire::{split_header, Operation, Reply, Request, REPLY_BYTES, REQUEST_BYTES};
 use std::io::{self, Write};
 
 /// Rows: the operations, then all numbers above 6 together.
@@ -45,6 +45,9 @@ const OUT_OF_REACH: [(Operation, u8, &str); 2] = [
     (Operation::Begin, 12, "takes 4,294,967,295 begins at one level"),
 ];
 
+/// From this many inputs on, everything that a comparison counts has to be met.
+pub const ENOUGH: u64 = 100;
+
 /// Standings a requester can be in; every operation that names it should meet each.
 const STANDINGS: [&str; 4] = ["active", "active, signalled", "certified", "certified, signalled"];
 
@@ -66,8 +69,7 @@ struct Counts {
 impl Counts {
     fn note_input(&mut self, input: &[u8]) {
         let mut run = Run::new(Desk::answer);
-        let header_bytes = 1 + usize::from(input.first().copied().unwrap_or(0));
-        let (header, mut requests) = input.split_at(header_bytes.min(input.len()));
+        let (header, mut requests) = split_header(input);
         let mut refusal = run.feed(header);
         if run.desk().is_some() {
             self.opened += 1;
@@ -221,19 +223,30 @@ fn count_or_mark(row: usize, number: u8, count: u64) -> String {
 }
 
 pub fn cover(seeds: u64, requests: usize, out: &mut impl Write) -> Result<(), Stop> {
-    let mut progress = Progress::new("counted", seeds);
     let mut counts = Counts::default();
-    for seed in 0..seeds {
+    each_seed("counted", 0, seeds, |seed| {
         counts.note_input(&generator::input(seed, requests));
-        progress.tell(seed + 1);
-    }
+        Ok(())
+    })?;
     counts.print(out)?;
-    let faults = counts.faults();
-    if !faults.is_empty() {
-        return Err(Stop::Found(faults.join("\n")));
-    }
+    check_faults(&counts.faults())?;
     writeln!(out, "\ncovered: every reply that a run can reach was met")?;
     Ok(())
+}
+
+fn check_faults(faults: &[String]) -> Result<(), Stop> {
+    if faults.is_empty() {
+        return Ok(());
+    }
+    Err(Stop::Found(faults.join("\n")))
+}
+
+/// Notices a comparison that tried too little; `faults` says what its inputs did not meet.
+pub fn check_met(inputs: u64, faults: &[String]) -> Result<(), Stop> {
+    if inputs < ENOUGH {
+        return Ok(());
+    }
+    check_faults(faults)
 }
 
 #[cfg(test)]

@@ -98,6 +98,10 @@ impl Place {
     pub fn signalled(&self) -> Vec<usize> {
         self.items_where(|cell| cell.signalled)
     }
+
+    pub fn reads_one_of(&self, items: &[usize]) -> bool {
+        items.iter().any(|&item| self.cell(item).read)
+    }
 }
 
 /// The desk with the one house it keeps.
@@ -223,8 +227,7 @@ impl Desk {
         self.check_standing(me, Standing::Active)?;
         let level = request.level;
         let written = self.places[me].written();
-        let reads_one = |other: &Place| written.iter().any(|&item| other.cell(item).read);
-        if self.others(me).any(|other| other.level == level && reads_one(other)) {
+        if self.others(me).any(|other| other.level == level && other.reads_one_of(&written)) {
             return Err(Refusal::Delayed);
         }
         for &item in &written {
@@ -281,6 +284,17 @@ impl Desk {
             .iter()
             .position(|place| place.is_taken() && place.level == level && place.ticket == ticket)
             .ok_or(Refusal::NoTransaction)
+    }
+
+    /// The items that the requester has written, if it is open.
+    pub fn written_by(&self, request: &Request) -> Vec<usize> {
+        let place = self.find(request.level, request.ticket);
+        place.map(|place| self.places[place].written()).unwrap_or_default()
+    }
+
+    /// The level of each item.
+    pub fn levels(&self) -> Vec<u8> {
+        self.items.iter().map(|item| item.level).collect()
     }
 
     /// The open transactions other than the one at place `me`, whose own locks never conflict.

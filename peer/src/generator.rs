@@ -3,7 +3,7 @@
 
 use crate::desk::{Desk, Item, Place, Standing, LEVELS, MOST_ITEMS};
 use crate::rng::Rng;
-use crate::wire::{Operation, Request, REQUEST_BYTES};
+use crate::wire::{header, Operation, Request, REQUEST_BYTES};
 
 /// What most requests of a stretch are about.
 struct Mood {
@@ -287,8 +287,7 @@ fn proper_house(rng: &mut Rng) -> Desk {
 
 /// The bytes that open a house with the items of this one.
 pub fn header_of(desk: &Desk) -> Vec<u8> {
-    let levels = desk.items.iter().map(|item| item.level);
-    std::iter::once(desk.items.len() as u8).chain(levels).collect()
+    header(&desk.levels())
 }
 
 /// One header in eight is spoiled: no items, too many, a byte above 3, or cut short.

@@ -17,7 +17,7 @@ const ECHO: &str = "> ";
 pub fn play(file: &str, command: Option<&str>, out: &mut impl Write) -> Result<(), Stop> {
     let text = read(file)?;
     let guide = parse(file, &text)?;
-    let requests = guide.play(command).map_err(|stop| in_file(file, stop))?;
+    let requests = guide.play(command).map_err(|stop| stop.at(file))?;
     let recipes = guide.recipes.len();
     writeln!(out, "played {recipes} recipes, {requests} requests: every byte as the guide says")?;
     Ok(())
@@ -26,7 +26,7 @@ pub fn play(file: &str, command: Option<&str>, out: &mut impl Write) -> Result<(
 /// Writes the guide with the transcript of each recipe made anew.
 pub fn rewrite(file: &str, command: Option<&str>, out: &mut impl Write) -> Result<(), Stop> {
     let text = read(file)?;
-    let anew = parse(file, &text)?.rewritten(command).map_err(|stop| in_file(file, stop))?;
+    let anew = parse(file, &text)?.rewritten(command).map_err(|stop| stop.at(file))?;
     Ok(out.write_all(anew.as_bytes())?)
 }
 
@@ -36,13 +36,6 @@ fn read(file: &str) -> Result<String, Stop> {
 
 fn parse<'a>(file: &str, text: &'a str) -> Result<Guide<'a>, Stop> {
     Guide::parse(text).map_err(|what| Stop::Cannot(format!("{file}: {what}")))
-}
-
-fn in_file(file: &str, stop: Stop) -> Stop {
-    match stop {
-        Stop::Found(what) => Stop::Found(format!("{file}: {what}")),
-        other => other,
-    }
 }
 
 #[derive(Debug)]

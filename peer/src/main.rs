@@ -113,6 +113,13 @@ fn dispatch(words: &[&str]) -> Result<(), Stop> {
         ["cover", seeds, requests] => {
             cover::cover(parse_count(seeds, "SEEDS")?, parse_requests(requests)?, &mut out)
         }
+        _ => with_or_without_program(words, out),
+    }
+}
+
+/// The commands whose last word may be a program, or else the peer's own desk answers.
+fn with_or_without_program(words: &[&str], mut out: io::Stdout) -> Result<(), Stop> {
+    match *words {
         ["talk", "--day"] => talk::day(None, out),
         ["talk", "--day", program] => talk::day(Some(program), out),
         ["talk"] => talk::talk_here(None),
@@ -161,9 +168,13 @@ fn maps_here(words: &[&str], out: &mut impl Write) -> Result<(), Stop> {
 }
 
 fn map_here(call: maps::Call, out: &mut impl Write) -> Result<(), Stop> {
+    Ok(out.write_all(&maps::answer(&standard_input()?, call)?)?)
+}
+
+fn standard_input() -> Result<Vec<u8>, Stop> {
     let mut input = Vec::new();
     io::stdin().lock().read_to_end(&mut input)?;
-    Ok(out.write_all(&maps::answer(&input, call)?)?)
+    Ok(input)
 }
 
 /// The slip of this number among those listed; the first is 1.

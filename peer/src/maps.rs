@@ -8,10 +8,10 @@ mod slips;
 pub use case::{Case, Map};
 pub use slips::SLIPS;
 
-use crate::compare::{compare_one, explain_replies, reply_at};
-use crate::cover;
+use crate::compare::{compare_one, explain_replies, first_difference, reply_at};
+use crate::cover::{self, check_met};
 use crate::desk::{Desk, Refusal};
-use crate::progress::Progress;
+use crate::progress::each_seed;
 use crate::run::answer_whole;
 use crate::stop::Stop;
 use crate::wire::{hex, Operation, REPLY_BYTES};
@@ -20,9 +20,6 @@ use std::io::{self, Write};
 
 /// Reads a map into the bytes lent for its replies, and gives the count of items handled.
 pub type Call = fn(&mut Desk, &Map, &mut [u8]) -> usize;
-
-/// From this many cases on, everything that `Met` counts has to be met.
-const ENOUGH: u64 = 100;
 
 /// What the reply bytes are before the call, and how many more of them lie behind those lent.
 const GUARD: u8 = 0xa5;
@@ -93,23 +90,18 @@ pub fn answer(input: &[u8], call: Call) -> Result<Vec<u8>, Stop> {
 }
 
 pub fn compare(command: &str, from: u64, count: u64, out: &mut impl Write) -> Result<(), Stop> {
-    let mut progress = Progress::new("compared", count);
     let mut met = Met::default();
-    for done in 0..count {
-        let seed = from.wrapping_add(done);
+    each_seed("compared", from, count, |seed| {
         let case = Case::of_seed(seed);
         let ours = ours(&case);
         let explained = |theirs: &[u8]| explain(&case, &ours, theirs);
         compare_one(command, &case.to_bytes(), ours.to_bytes().len(), explained)
             .map_err(|stop| stop.on_input_of(&format!("peer gen --map {seed}")))?;
         met.note(&case, &ours);
-        progress.tell(done + 1);
-    }
+        Ok(())
+    })?;
     met.print(out)?;
-    let faults = met.faults();
-    if count >= ENOUGH && !faults.is_empty() {
-        return Err(Stop::Found(faults.join("\n")));
-    }
+    check_met(count, &met.faults())?;
     writeln!(out, "compared {count} maps of {} items handled: no difference", met.handled)?;
     Ok(())
 }
@@ -121,10 +113,7 @@ fn ours(case: &Case) -> Left {
 /// The first difference in words, if there is one.
 fn explain(case: &Case, ours: &Left, theirs: &[u8]) -> Option<String> {
     let due = ours.to_bytes();
-    if due == theirs {
-        return None;
-    }
-    let same = due.iter().zip(theirs).take_while(|(one, other)| one == other).count();
+    let same = first_difference(&due, theirs)?;
     let untouched = ours.replies.len() - ours.reply_bytes();
     let sizes = [COUNT_BYTES, ours.before.len(), ours.reply_bytes(), untouched, ours.after.len()];
     let mut offset = same;
@@ -139,7 +128,7 @@ fn explain(case: &Case, ours: &Left, theirs: &[u8]) -> Option<String> {
         let start = same - offset % REPLY_BYTES;
         let (ours_here, theirs_here) = (reply_at(&due[start..], 0), reply_at(&theirs[start..], 0));
         let input = case.by_single_requests(ours.count);
-        explain_replies(&input, earlier + index, ours_here, theirs_here)
+        explain_replies(&input, earlier + index, ("peer", ours_here), ("program", theirs_here))
     };
     let before = ours.before.len() / REPLY_BYTES;
     Some(match part {
@@ -275,6 +264,7 @@ impl Met {
 #[cfg(test)]
 mod tests {
     use super::*;
+    use crate::cover::ENOUGH;
 
     fn met(seeds: std::ops::Range<u64>) -> Met {
         let mut met = Met::default();

@@ -101,6 +101,13 @@ pub fn answer_whole<'a>(
     (replies, bytes)
 }
 
+/// The house that this header opens, if it is whole and not refused.
+pub fn opened(header: &[u8]) -> Option<Desk> {
+    let mut run = Run::new(Desk::answer);
+    run.feed(header);
+    run.desk().cloned()
+}
+
 /// All that the program writes for this whole input.
 pub fn output_for(input: &[u8], answer: Answer) -> Vec<u8> {
     let mut run = Run::new(answer);

@@ -3,7 +3,7 @@
 
 use crate::desk::Desk;
 use crate::generator::Generator;
-use crate::progress::Progress;
+use crate::progress::each_seed;
 use crate::run::Answer;
 use crate::stop::Stop;
 use crate::wire::{Operation, Reply, Request};
@@ -136,15 +136,14 @@ fn check_run(seed: u64, requests: usize, answer: Answer) -> Result<(u64, u64), S
 }
 
 pub fn serial(seeds: u64, requests: usize, out: &mut impl Write) -> Result<(), Stop> {
-    let mut progress = Progress::new("checked", seeds);
     let (mut commits, mut reads) = (0, 0);
-    for seed in 0..seeds {
+    each_seed("checked", 0, seeds, |seed| {
         let (more_commits, more_reads) =
             check_run(seed, requests, Desk::answer).map_err(Stop::Found)?;
         commits += more_commits;
         reads += more_reads;
-        progress.tell(seed + 1);
-    }
+        Ok(())
+    })?;
     writeln!(
         out,
         "checked {seeds} runs of {requests} requests: {commits} committed transactions, with \

@@ -26,12 +26,6 @@ fn signals(desk: &Desk) -> usize {
     desk.places.iter().map(|place| place.signalled().len()).sum()
 }
 
-/// The items that the requester has written, if it is open.
-fn written(desk: &Desk, request: &Request) -> Vec<usize> {
-    let place = desk.find(request.level, request.ticket);
-    place.map(|place| desk.places[place].written()).unwrap_or_default()
-}
-
 /// Answers as the desk does, but delays a certify when a place in the way reads its items.
 fn delay_certify_if(
     desk: &mut Desk,
@@ -39,12 +33,11 @@ fn delay_certify_if(
     is_in_the_way: impl Fn(&Place) -> bool,
 ) -> Reply {
     let before = desk.clone();
-    let written = written(desk, request);
-    let reads_one = |place: &Place| written.iter().any(|&item| place.cell(item).read);
+    let written = desk.written_by(request);
     let reply = desk.answer(request);
     if request.is(Operation::Certify)
         && reply.number == 0
-        && before.places.iter().any(|place| is_in_the_way(place) && reads_one(place))
+        && before.places.iter().any(|place| is_in_the_way(place) && place.reads_one_of(&written))
     {
         *desk = before;
         return delayed(request);
@@ -78,7 +71,7 @@ fn converts_free_items(desk: &mut Desk, request: &Request) -> Reply {
     let Ok(me) = desk.find(request.level, request.ticket) else {
         return reply;
     };
-    for item in written(desk, request) {
+    for item in desk.written_by(request) {
         let is_beside = |(place, other): (usize, &Place)| {
             place != me && other.level == request.level && other.cell(item).read
         };

@@ -13,12 +13,17 @@ pub enum Stop {
 }
 
 impl Stop {
-    /// What was found is about the input that this command makes.
-    pub fn on_input_of(self, command: &str) -> Stop {
+    /// Says where it was that something was found.
+    pub fn at(self, place: &str) -> Stop {
         match self {
-            Stop::Found(what) => Stop::Found(format!("input of '{command}': {what}")),
+            Stop::Found(what) => Stop::Found(format!("{place}: {what}")),
             other => other,
         }
+    }
+
+    /// What was found is about the input that this command makes.
+    pub fn on_input_of(self, command: &str) -> Stop {
+        self.at(&format!("input of '{command}'"))
     }
 }
 

@@ -4,7 +4,7 @@
 use crate::desk::Desk;
 use crate::program::Program;
 use crate::stop::Stop;
-use crate::wire::{hex, Reply, Request, REPLY_BYTES, REQUEST_BYTES};
+use crate::wire::{header, hex, Reply, Request, REPLY_BYTES, REQUEST_BYTES};
 use crate::words;
 use std::io::{self, BufRead, Write};
 
@@ -21,7 +21,7 @@ pub const DAY_OUTPUT: [u8; 3 * REPLY_BYTES] = [
     0, 2, 0, 0, 1, 0, 0, 0, 0, 0, 0, 0, 0, 0, 0, 0,
     0, 1, 0, 0, 1, 0, 0, 0, 7, 0, 0, 0, 1, 0, 0, 0,
 ];
-const DAY_WORDS: &str = "open 0\nbegin 0\nwrite 0 #1 item 0 = 7\nread 0 #1 item 0\n";
+pub const DAY_WORDS: &str = "open 0\nbegin 0\nwrite 0 #1 item 0 = 7\nread 0 #1 item 0\n";
 
 const HELP: &str = "\
 one line each:
@@ -37,6 +37,9 @@ one line each:
   show                     the lock table
   help, quit
 ";
+
+/// Said of a request before any opening.
+pub const OPEN_FIRST: &str = "open a house first; say 'open 0 0 2'";
 
 /// A prompt for a person, or the line itself for a transcript of a pipe.
 #[derive(Clone, Copy, PartialEq, Eq)]
@@ -144,28 +147,15 @@ impl<'a, W: Write> Talk<'a, W> {
     }
 
     fn take_line(&mut self, line: &str) -> Result<(), Stop> {
-        let (verb, rest) = line.split_once(char::is_whitespace).unwrap_or((line, ""));
-        let request = match verb {
-            "" => return Ok(()),
-            "help" => return Ok(write!(self.out, "{HELP}")?),
-            "show" => return self.show(),
-            "open" => {
-                return match parse_levels(rest) {
-                    Ok(levels) => self.open(&levels),
-                    Err(message) => self.say(&message),
-                }
-            }
-            "map" => {
-                return match parse_map(rest) {
-                    Ok(reads) => reads.iter().try_for_each(|read| self.ask(read)),
-                    Err(message) => self.say(&message),
-                }
-            }
-            "raw" => parse_raw(rest),
-            _ => words::parse_request(line),
-        };
-        match request {
-            Ok(request) => self.ask(&request),
+        match line.split_whitespace().next() {
+            None => return Ok(()),
+            Some("help") => return Ok(write!(self.out, "{HELP}")?),
+            Some("show") => return self.show(),
+            Some(_) => {}
+        }
+        match parse_line(line) {
+            Ok(Line::Open(levels)) => self.open(&levels),
+            Ok(Line::Ask(requests)) => requests.iter().try_for_each(|request| self.ask(request)),
             Err(message) => self.say(&message),
         }
     }
@@ -188,7 +178,7 @@ impl<'a, W: Write> Talk<'a, W> {
             None => start(self.command)?,
             ready => ready,
         };
-        let header = [&[levels.len() as u8], levels].concat();
+        let header = header(levels);
         if let Some(Err(message)) = program.as_mut().map(|program| program.send(&header)) {
             return self.lose_program(&message);
         }
@@ -214,7 +204,7 @@ impl<'a, W: Write> Talk<'a, W> {
 
     fn ask(&mut self, request: &Request) -> Result<(), Stop> {
         let Some(house) = &mut self.house else {
-            return self.say("open a house first; say 'open 0 0 2'");
+            return self.say(OPEN_FIRST);
         };
         let theirs = house.program.as_mut().map(|program| program.ask(request));
         let ours = house.desk.answer(request);
@@ -293,7 +283,7 @@ fn start(command: Option<&str>) -> Result<Option<Program>, Stop> {
     Ok(Some(program))
 }
 
-fn list(levels: &[u8]) -> String {
+pub fn list(levels: &[u8]) -> String {
     match levels {
         [] => "no items".to_string(),
         [level] => format!("1 item, at level {level}"),
@@ -302,6 +292,24 @@ fn list(levels: &[u8]) -> String {
             format!("{} items, at levels {}", levels.len(), words.join(" "))
         }
     }
+}
+
+/// What a line asks of a desk.
+pub enum Line {
+    /// To open a house with items of these levels.
+    Open(Vec<u8>),
+    /// One request, or the single reads of a map.
+    Ask(Vec<Request>),
+}
+
+pub fn parse_line(line: &str) -> Result<Line, String> {
+    let (verb, rest) = line.split_once(char::is_whitespace).unwrap_or((line, ""));
+    Ok(match verb {
+        "open" => Line::Open(parse_levels(rest)?),
+        "map" => Line::Ask(parse_map(rest)?),
+        "raw" => Line::Ask(vec![parse_raw(rest)?]),
+        _ => Line::Ask(vec![words::parse_request(line)?]),
+    })
 }
 
 /// The wire has one byte for the count and one for each level; the desk judges the rest.

@@ -144,6 +144,23 @@ impl Reply {
     }
 }
 
+/// The bytes that open a house: how many items, and the level of each.
+pub fn header(levels: &[u8]) -> Vec<u8> {
+    [&[levels.len() as u8], levels].concat()
+}
+
+/// The header of an input, as much of it as there is, and the bytes behind it.
+pub fn split_header(input: &[u8]) -> (&[u8], &[u8]) {
+    let header_bytes = 1 + usize::from(input.first().copied().unwrap_or(0));
+    input.split_at(header_bytes.min(input.len()))
+}
+
+/// The whole requests of these bytes; an unfinished one at their end is none.
+pub fn requests_in(bytes: &[u8]) -> impl Iterator<Item = Request> + '_ {
+    let whole = bytes.chunks_exact(REQUEST_BYTES);
+    whole.filter_map(|bytes| bytes.first_chunk()).map(Request::from_bytes)
+}
+
 /// Bytes as the document prints them: `01 00 ff`.
 pub fn hex(bytes: &[u8]) -> String {
     let words: Vec<String> = bytes.iter().map(|byte| format!("{byte:02x}")).collect();

@@ -229,7 +229,7 @@ fn look(mut desk: Desk, map: &Map) -> Vec<u8> {
     let Map { level, ticket, .. } = *map;
     let others = desk.places.iter().filter(|place| place.is_taken());
     let others: Vec<(u8, u32)> = others.map(|place| (place.level, place.ticket)).collect();
-    let levels: Vec<u8> = desk.items.iter().map(|item| item.level).collect();
+    let levels = desk.levels();
     let mut bytes = Vec::new();
     let mut ask = |operation: Operation, (level, ticket), item: usize, value| {
         let operation = operation.number();
