@@ -6,24 +6,24 @@ use mathlib.Core.Path.{_≡_, refl, sym, ap, _∙_}
 use mathlib.Core.Logic.{inl, inr}
 use mathlib.Core.Bool.{true, false}
 use mathlib.Core.List.{List, [], _∷_, _++_, append-assoc, append-nil}
-use lib.ListN.{length, take, drop, length-append, length-take, length-drop, List·getD-append}
+use lib.ListN.{length, take, drop, length-append, length-drop, List·getD-append}
 use lib.Seq.{take-at, drop-drop, drop-append-le, take-append-le, drop-length}
-use lib.Dec.{eqb, ltb, leb}
-use borrow.Author.Tests.{eqb-true, ltb-true, ltb-false, leb-false, le-leb, lt-leb, lt-ltb}
+use lib.Dec.{eqb, ltb}
+use borrow.Author.Tests.{eqb-true, ltb-true, ltb-false, lt-ltb}
 use Rattle.house.specs.declared.House.{House}
-use Rattle.house.specs.Opening.{wrongLength, openVerdict, opening}
+use Rattle.house.specs.Opening.{opening}
 use Rattle.house.specs.Run.{finally, replies}
 use Rattle.house.proofs.Runs.{finally-append}
-use Rattle.house.proofs.Tests.{is, clash, or-elim, or-false, or-right}
+use Rattle.house.proofs.Tests.{is, or-elim, or-false}
 use Rattle.desk.specs.Turn.{requests, wired, share, housed, turned, answered}
 use Rattle.desk.proofs.Laws.{requests-add, length-wired, replied-append}
 use Rattle.desk.proofs.TwoTurns.{requests-append}
 use Rattle.dialogue.specs.declared.Fed.{Fed}
 use Rattle.dialogue.specs.declared.Dialogue.{Dialogue}
 use Rattle.dialogue.specs.declared.Stage.the-variants.{Waiting, Refused}
-use Rattle.dialogue.specs.Dialogue.{announced, decided, levels, refusal, atStage, started, ended, drops, serves, opens, fed}
+use Rattle.dialogue.specs.Dialogue.{announced, decided, levels, header, refusal, atStage, started, ended, drops, serves, opens, fed}
 use Rattle.dialogue.specs.Pieces.{runOf, programmed, Piece, joined, farewell, conversed, Enough, Roomy, InPieces, LeavesLittle}
-use Rattle.dialogue.proofs.Laws.{there, opened-there}
+use Rattle.dialogue.proofs.Laws.{there, no-levels, long-opening, opened-there}
 use Rattle.dialogue.proofs.Stages.{waiting, opened, refused, at-stage}
 
 -- these bytes first
@@ -69,53 +69,35 @@ module _ (h : House) (k : ℕ) (bytes room : List ℕ) (there : k ≤ length byt
       rw (all, take-at (wired (replies h (requests m input))) (drop (m * 16) room) (m * 16) (length-wired h m input), sym (drop-drop (m * 12) k bytes))
       (sym (run-append h input future))
 
--- The opening, with more to come
+-- The opening, with more to come: what was decided stays
 
-module _ (b rest : List ℕ) (there : announced b + 1 ≤ length b) where
-  abbrev len : ℕ
-  len = announced b
+module _ (b rest : List ℕ) where
+  announced-append : 1 ≤ length b → announced (b ++ rest) ≡ announced b
+  announced-append l = List·getD-append b rest 0 0 l
 
-  announced-append : announced (b ++ rest) ≡ len
-  announced-append = List·getD-append b rest 0 0 (omega arith)
+  levels-append : announced b < length b → levels (b ++ rest) ≡ levels b
+  unfolding levels
+  levels-append l =
+      let n = announced b in
+      rw (announced-append (omega arith), lt-ltb n (length b) l, lt-ltb n (length (b ++ rest)) (rw (length-append b rest) (omega arith)), drop-append-le 1 b rest (omega arith))
+      (take-append-le n (drop 1 b) rest (rw (length-drop 1 b) (omega arith)))
 
-  levels-append : take len (drop 1 (b ++ rest)) ≡ take len (drop 1 b)
-  levels-append = rw (drop-append-le 1 b rest (omega arith)) (take-append-le len (drop 1 b) rest (rw (length-drop 1 b) (omega arith)))
+  opening-append : decided b ≡ true → opening (levels (b ++ rest)) ≡ opening (levels b)
+  unfolding decided
+  opening-append d =
+      or-elim (ltb (announced b) (length b)) (ltb 64 (announced b)) d
+      (λ l. ap opening (levels-append (ltb-true (announced b) (length b) l)))
+      (λ y. long-opening (b ++ rest) (rw (announced-append (there b y)) y) ∙ sym (long-opening b y))
 
-  come : leb (length (b ++ rest)) len ≡ false
-  come = lt-leb (length (b ++ rest)) len (rw (length-append b rest) (omega arith))
-
-  -- no more than 64 were announced
-  whole : ltb 64 len ≡ false → levels b ≡ take len (drop 1 b)
-  whole e = rw e
-
-  programmed-open : ltb 64 len ≡ false → opening (levels b) .number ≡ 0 → programmed (b ++ rest) ≡ runOf (opening (levels b) .house) (drop (len + 1) b ++ rest)
+  programmed-open : decided b ≡ true → opening (levels b) .number ≡ 0 → programmed (b ++ rest) ≡ runOf (opening (levels b) .house) (drop (header b) b ++ rest)
   unfolding programmed
-  programmed-open e z = rw (announced-append, come, levels-append, sym (whole e), z, drop-append-le (len + 1) b rest there)
+  programmed-open d z =
+      let come = opened-there b z in
+      rw (opening-append d, z, announced-append (omega arith), drop-append-le (header b) b rest come)
 
-  programmed-refused : ltb 64 len ≡ false → (eqb (opening (levels b) .number) 0 ≡ false) → programmed (b ++ rest) ≡ (refusal (opening (levels b) .number), opening (levels b) .house)
+  programmed-refused : decided b ≡ true → eqb (opening (levels b) .number) 0 ≡ false → programmed (b ++ rest) ≡ (refusal (opening (levels b) .number), opening (levels b) .house)
   unfolding programmed
-  programmed-refused e z = rw (announced-append, come, levels-append, sym (whole e), z)
-
--- more than 64 were announced
-
-too-long : (l : List ℕ) → 64 < length l → opening l ≡ opening []
-unfolding opening openVerdict wrongLength
-too-long l h = rw (or-right (eqb (length l) 0) (ltb 64 (length l)) (lt-ltb 64 (length l) h))
-
--- none were
-no-levels : opening [] .number ≡ 13
-unfolding opening openVerdict wrongLength
-no-levels = refl
-
-programmed-long : (b : List ℕ) → ltb 64 (announced b) ≡ true → programmed b ≡ (refusal 13, opening [] .house)
-unfolding programmed
-programmed-long b y =
-    elim (is (leb (length b) (announced b))) [
-      | inl e ↦ rw e
-      | inr e ↦ rw e
-          (let long : 64 < length (take (announced b) (drop 1 b)) = rw (length-take (announced b) (drop 1 b), length-drop 1 b) (omega (arith, ltb-true 64 (announced b) y, leb-false (length b) (announced b) e)) in
-          rw (too-long (take (announced b) (drop 1 b)) long, no-levels))
-    ]
+  programmed-refused d z = rw (opening-append d, z)
 
 -- WHAT IS STILL TO BE WRITTEN, with these bytes to come
 
@@ -131,10 +113,10 @@ unfoldable pub Fresh : Dialogue → Type 0
 Fresh s = atStage (s .stage) (s .house ≡ opening [] .house) (Unit {0}) (Unit {0})
 
 pub expected-last : (s : Dialogue) (b : List ℕ) → Fresh s → Unfinished s b → (farewell (ended (s .stage)), s .house) ≡ expected s b
-unfolding expected Fresh Unfinished programmed runOf decided wired replies finally requests
+unfolding expected Fresh Unfinished programmed levels runOf decided wired replies finally requests
 expected-last s b e u =
     elim (at-stage (s .stage)) [
-      | waiting w ↦ rw (w, le-leb (length b) (announced b) (ltb-false (announced b) (length b) (or-false _ _ (rw w at u) .0)), rw w at e)
+      | waiting w ↦ rw (w, or-false (ltb (announced b) (length b)) (ltb 64 (announced b)) (rw w at u) .0, no-levels, rw w at e)
       | opened o ↦
           let short : length b < 12 = rw o at u in
           let z : length b / 12 ≡ 0 = omega arith in
@@ -163,24 +145,6 @@ unfolding expected Fresh Unfinished
 after-drops s t m bytes room r e =
     record { same = λ future. rw r (e future); fresh = λ i. rw r tt; unfinished = rw r tt; little = rw (drop-length bytes) (omega arith) }
 
-long-opening : (b : List ℕ) → ltb 64 (announced b) ≡ true → opening (levels b) ≡ opening []
-long-opening b y = rw y
-
-few : (b : List ℕ) → opening (levels b) .number ≡ 0 → ltb 64 (announced b) ≡ false
-few b z = elim (is (ltb 64 (announced b))) [ inl y ↦ absurd (omega (arith, ap (λ o. o .number) (long-opening b y), no-levels)) | inr n ↦ n ]
-
-refused-now : (b rest : List ℕ) → decided b ≡ true → eqb (opening (levels b) .number) 0 ≡ false → (refusal (opening (levels b) .number), opening (levels b) .house) ≡ programmed (b ++ rest)
-unfolding decided
-refused-now b rest d z =
-    elim (is (ltb 64 (announced b))) [
-      | inl y ↦
-          let e : announced (b ++ rest) ≡ announced b = List·getD-append b rest 0 0 (there b y) in
-          rw (long-opening b y, no-levels) (sym (programmed-long (b ++ rest) (rw e y)))
-      | inr f ↦
-          let come : ltb (announced b) (length b) ≡ true = or-elim (ltb (announced b) (length b)) (ltb 64 (announced b)) d (λ l. l) (λ y. clash y f) in
-          sym (programmed-refused b rest (omega (arith, ltb-true (announced b) (length b) come)) f z)
-    ]
-
 -- to one that waits for its levels
 after-waiting : (s : Dialogue) (bytes room : List ℕ) → s .stage ≡ Waiting → Enough bytes room → After s bytes (fed s bytes room)
 unfolding expected Unfinished decided fed opens
@@ -190,10 +154,9 @@ after-waiting s bytes room w enough =
       | inl y ↦ rw (w, y)
           (elim (is (eqb (o .number) 0)) [
             | inl z ↦
-                let zero : o .number ≡ 0 = eqb-true (o .number) 0 z in
-                let come = opened-there bytes y zero in
-                rw z (after-serves _ (o .house) (announced bytes + 1) bytes room come enough (λ future. sym (programmed-open bytes future come (few bytes zero) zero)))
-            | inr z ↦ rw z (after-drops _ _ (o .number) bytes room refl (λ future. refused-now bytes future y z))
+                let zero = eqb-true (o .number) 0 z in
+                rw z (after-serves _ (o .house) (header bytes) bytes room (opened-there bytes zero) enough (λ future. sym (programmed-open bytes future y zero)))
+            | inr z ↦ rw z (after-drops _ _ (o .number) bytes room refl (λ future. sym (programmed-refused bytes future y z)))
           ])
       | inr n ↦ rw (w, n)
           (let u = or-false (ltb (announced bytes) (length bytes)) (ltb 64 (announced bytes)) n in

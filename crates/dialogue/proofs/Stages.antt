@@ -1,6 +1,6 @@
 -- A dialogue at its stage.
 -- Assumes nothing.
-use Prim.Native.Nat.{ℕ, _+_}
+use Prim.Native.Nat.{ℕ}
 use native.Mathlib.Omega.{arith}
 use mathlib.Core.Path.{_≡_, refl}
 use mathlib.Core.Logic.{inl, inr}
@@ -13,7 +13,7 @@ use Rattle.dialogue.specs.declared.Fed.{Fed}
 use Rattle.dialogue.specs.declared.Dialogue.{Dialogue}
 use Rattle.dialogue.specs.declared.Stage.{Stage}
 use Rattle.dialogue.specs.declared.Stage.the-variants.{Waiting, Open, Refused}
-use Rattle.dialogue.specs.Dialogue.{announced, decided, levels, atStage, waits, drops, serves, opens, fed}
+use Rattle.dialogue.specs.Dialogue.{decided, levels, header, atStage, waits, drops, serves, opens, fed}
 use Rattle.dialogue.proofs.Serving.{Within, serves-within}
 
 -- code that goes by the stage is in the branch of that stage: with `followed`, a proof goes through `fed` as the code does
@@ -48,7 +48,7 @@ fed-cases P s b room serving dropping waited =
           (elim (is (decided b)) [
             | inl y ↦ rw y
                 (elim (is (eqb (opening (levels b) .number) 0)) [
-                  | inl z ↦ rw z (serving (opening (levels b) .house) (announced b + 1))
+                  | inl z ↦ rw z (serving (opening (levels b) .house) (header b))
                   | inr z ↦ rw z (dropping _)
                 ])
             | inr n ↦ rw n (waited _)

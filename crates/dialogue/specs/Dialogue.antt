@@ -28,9 +28,13 @@ announced bytes = getD bytes 0 0
 unfoldable pub decided : List ℕ → Bool
 decided bytes = ltb (announced bytes) (length bytes) || ltb 64 (announced bytes)
 
--- the levels to be opened. "length 0 or above 64 gives 13": a number above 64 is refused as no levels are
-abbrev pub levels : List ℕ → List ℕ
-levels bytes = take (cond (ltb 64 (announced bytes)) 0 (announced bytes)) (drop 1 bytes)
+-- the n levels. "input ends before the levels do (13)": then there are none, and none are refused with 13
+unfoldable pub levels : List ℕ → List ℕ
+levels bytes = cond (ltb (announced bytes) (length bytes)) (take (announced bytes) (drop 1 bytes)) []
+
+-- how many bytes an opening has: "one byte n, n level bytes"
+abbrev pub header : List ℕ → ℕ
+header bytes = announced bytes + 1
 
 -- "one reply of that number with all else zero"
 unfoldable pub refusal : ℕ → List ℕ
@@ -72,7 +76,7 @@ serves h k bytes room =
 unfoldable pub opens : List ℕ → List ℕ → Fed × List ℕ
 opens bytes room =
     let o = opening (levels bytes) in
-    cond (eqb (o .number) 0) (serves (o .house) (announced bytes + 1) bytes room)
+    cond (eqb (o .number) 0) (serves (o .house) (header bytes) bytes room)
     (drops (record { stage = Refused (o .number); house = o .house }) bytes room)
 
 unfoldable pub fed : Dialogue → List ℕ → List ℕ → Fed × List ℕ

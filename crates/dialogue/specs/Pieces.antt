@@ -1,11 +1,11 @@
 -- The whole input at once, and in pieces: the program writes the same, and holds the same house at the end.
 -- Assumes nothing. Proved in proofs/Pieces.antt.
-use Prim.Native.Nat.{ℕ, _+_, _*_, _/_, _≤_}
+use Prim.Native.Nat.{ℕ, _*_, _/_, _≤_}
 use mathlib.Core.Path.{_≡_}
 use mathlib.Core.Bool.{cond}
 use mathlib.Core.List.{List, [], _∷_, _++_}
 use lib.ListN.{length, take, drop}
-use lib.Dec.{eqb, leb}
+use lib.Dec.{eqb}
 use Rattle.house.specs.declared.House.{House}
 use Rattle.house.specs.Opening.{opening}
 use Rattle.house.specs.Run.{finally, replies}
@@ -13,20 +13,21 @@ use Rattle.desk.specs.Turn.{requests, wired}
 use Rattle.dialogue.specs.declared.Dialogue.{Dialogue}
 use Rattle.dialogue.specs.declared.Stage.{Stage}
 use Rattle.dialogue.specs.declared.Stage.the-variants.{Waiting, Open, Refused}
-use Rattle.dialogue.specs.Dialogue.{announced, refusal, started, ended, fed}
+use Rattle.dialogue.specs.Dialogue.{levels, header, refusal, started, ended, fed}
 
 -- the replies to the whole requests of these bytes, and the house after them. "An unfinished last request gets no reply."
 unfoldable pub runOf : House → List ℕ → List ℕ × House
 runOf h bytes = let qs = requests (length bytes / 12) bytes in (wired (replies h qs), finally h qs)
 
--- "one byte n, n level bytes, then requests .. If opening is refused, or input ends before the levels do (13), it writes one
--- reply of that number with all else zero, and stops."
+-- "one byte n, n level bytes, then requests"
+abbrev pub pastOpening : List ℕ → List ℕ
+pastOpening input = drop (header input) input
+
+-- "If opening is refused, or input ends before the levels do (13), it writes one reply of that number with all else zero, and stops."
 unfoldable pub programmed : List ℕ → List ℕ × House
 programmed input =
-    let n = announced input in
-    let o = opening (take n (drop 1 input)) in
-    cond (leb (length input) n) (refusal 13, opening [] .house)
-    (cond (eqb (o .number) 0) (runOf (o .house) (drop (n + 1) input)) (refusal (o .number), o .house))
+    let o = opening (levels input) in
+    cond (eqb (o .number) 0) (runOf (o .house) (pastOpening input)) (refusal (o .number), o .house)
 
 -- a piece of input, and the reply bytes that are lent for it
 abbrev pub Piece : Type 0

@@ -1,12 +1,12 @@
 -- Demand 3 over a whole dialogue: what is read from the bytes in and out is the trace of the requests, or nothing was done.
 -- Assumes nothing.
-use Prim.Native.Nat.{ℕ, zero, suc, _+_, _/_, _≤_, min}
+use Prim.Native.Nat.{ℕ, zero, suc, _/_, _≤_, min}
 use native.Mathlib.Omega.{arith}
 use mathlib.Core.Path.{_≡_, refl, sym, ap}
 use mathlib.Core.Logic.{_≢_, inl, inr}
 use mathlib.Core.List.{List, [], _∷_, map, append-nil}
-use lib.ListN.{length, take, drop, replicate}
-use lib.Dec.{eqb, leb}
+use lib.ListN.{length, replicate}
+use lib.Dec.{eqb}
 use borrow.Author.Tests.{eqb-false, ne-eqb}
 use Rattle.house.specs.declared.House.{House}
 use Rattle.house.specs.declared.Item.{Item}
@@ -18,8 +18,8 @@ use Rattle.house.proofs.Tests.{is}
 use Rattle.wire.specs.Wire.{replyAt, replyBytes}
 use Rattle.desk.specs.Turn.{requests, wired}
 use Rattle.desk.proofs.Laws.{length-wired}
-use Rattle.dialogue.specs.Dialogue.{announced, refusal}
-use Rattle.dialogue.specs.Pieces.{runOf, programmed, joined}
+use Rattle.dialogue.specs.Dialogue.{levels, header, refusal}
+use Rattle.dialogue.specs.Pieces.{runOf, pastOpening, programmed, joined}
 use Rattle.dialogue.specs.Rounds.{brought}
 use Rattle.dialogue.proofs.Pieces.{in-pieces}
 use Rattle.dialogue.proofs.Rounds.{as-programmed}
@@ -72,14 +72,14 @@ refused-equal input n levels d = idle _ (opening levels .house) (refused-idle _ 
 
 -- THE OPENING WAS DONE
 
-opened-equal : (input levels : List ℕ) → Bytes input → Equal (seen input (runOf (opening levels .house) (drop (announced input + 1) input) .0)) (runOf (opening levels .house) (drop (announced input + 1) input) .1)
+opened-equal : (input levels : List ℕ) → Bytes input → Equal (seen input (runOf (opening levels .house) (pastOpening input) .0)) (runOf (opening levels .house) (pastOpening input) .1)
 unfolding seen runOf Demand3
 opened-equal input levels s =
     let h = opening levels .house in
-    let asked = drop (announced input + 1) input in
+    let asked = pastOpening input in
     let n = length asked / 12 in
     let all : min n (length (wired (replies h (requests n asked))) / 16) ≡ n = rw (length-wired h n asked) (omega arith) in
-    let t : exchanged (requests n asked) (wired (replies h (requests n asked))) ≡ trace h (requests n asked) = rw (append-nil (wired (replies h (requests n asked)))) at (turn-trace n h asked [] (opening-fits levels) (bytes-drop (announced input + 1) input s)) in
+    let t : exchanged (requests n asked) (wired (replies h (requests n asked))) ≡ trace h (requests n asked) = rw (append-nil (wired (replies h (requests n asked)))) at (turn-trace n h asked [] (opening-fits levels) (bytes-drop (header input) input s)) in
     rw (all, t, sym (opening-blank levels)) (demand levels (requests n asked))
 
 -- THE THEOREM
@@ -87,15 +87,10 @@ opened-equal input levels s =
 programmed-equal : (input : List ℕ) → Bytes input → Equal (seen input (programmed input .0)) (programmed input .1)
 unfolding programmed
 programmed-equal input s =
-    let n = announced input in
-    let levels = take n (drop 1 input) in
-    elim (is (leb (length input) n)) [
-      | inl y ↦ rw y (refused-equal input 13 [] (λ e. omega arith))
-      | inr y ↦ rw y
-          (elim (is (eqb (opening levels .number) 0)) [
-            | inl z ↦ rw z (opened-equal input levels s)
-            | inr z ↦ rw z (refused-equal input (opening levels .number) levels (eqb-false (opening levels .number) 0 z))
-          ])
+    let o = opening (levels input) in
+    elim (is (eqb (o .number) 0)) [
+      | inl z ↦ rw z (opened-equal input (levels input) s)
+      | inr z ↦ rw z (refused-equal input (o .number) (levels input) (eqb-false (o .number) 0 z))
     ]
 
 pub over-pieces : OverPieces

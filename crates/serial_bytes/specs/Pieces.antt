@@ -1,14 +1,14 @@
 -- Demand 3 over a whole dialogue, from its opening to the end of the input: in whatever pieces that comes, and of the program,
 -- round after round.
 -- Assumes nothing. Proved in proofs/Pieces.antt.
-use Prim.Native.Nat.{ℕ, _+_, _/_, min}
+use Prim.Native.Nat.{ℕ, _/_, min}
 use mathlib.Core.Path.{_≡_}
 use mathlib.Core.List.{List, [], map}
-use lib.ListN.{length, drop, replicate}
+use lib.ListN.{length, replicate}
 use Rattle.house.specs.declared.House.{House}
 use Rattle.desk.specs.Turn.{requests}
-use Rattle.dialogue.specs.Dialogue.{announced, started}
-use Rattle.dialogue.specs.Pieces.{Piece, joined, conversed, Roomy}
+use Rattle.dialogue.specs.Dialogue.{started}
+use Rattle.dialogue.specs.Pieces.{pastOpening, Piece, joined, conversed, Roomy}
 use Rattle.dialogue.specs.Rounds.{Read, brought, told, Reads, Room}
 use Rattle.serial.specs.Demand.{Event, Table, work, commits, answers, serially, table}
 use Rattle.serial_bytes.specs.Bytes.{exchanged, Bytes}
@@ -17,7 +17,7 @@ use Rattle.serial_bytes.specs.Bytes.{exchanged, Bytes}
 -- reply to a refused opening may be read so too; it is no reply of a done request
 unfoldable pub seen : List ℕ → List ℕ → List Event
 seen input output =
-    let asked = drop (announced input + 1) input in
+    let asked = pastOpening input in
     exchanged (requests (min (length asked / 12) (length output / 16)) asked) output
 
 -- the plain table at an opening, done or refused: "both 0 at opening"
