@@ -4,8 +4,8 @@ use Prim.Native.Nat.{ℕ, zero, suc, _+_, _-_, _*_, _/_, _<_, _≤_, min}
 use native.Mathlib.Omega.{arith}
 use mathlib.Core.Path.{_≡_, refl, sym, ap, ap₂, _∙_}
 use mathlib.Core.List.{List, _∷_, _++_, append-assoc}
-use lib.ListN.{length, getD, take, drop, length-append, length-drop, List·getD-append}
-use lib.Seq.{take-at, drop-at, drop-drop, drop-append-le}
+use lib.ListN.{length, getD, take, drop, length-append, length-drop, take-append-drop, List·getD-append}
+use lib.Seq.{length-take-le, take-at, drop-at, drop-drop, drop-append-le}
 use Rattle.house.specs.declared.House.{House}
 use Rattle.house.specs.declared.Request.{Request}
 use Rattle.house.specs.Run.{finally, replies}
@@ -80,6 +80,12 @@ requests-append zero part rest long = refl
 requests-append (suc k) part rest long =
     rw (drop-append-le 12 part rest (omega arith))
     (ap₂ _∷_ (requestAt-append part rest (omega arith)) (requests-append k (drop 12 part) rest (rw (length-drop 12 part) (omega arith))))
+
+pub requests-front : (k : ℕ) (b rest : List ℕ) → k * 12 ≤ length b → requests k (take (k * 12) b ++ rest) ≡ requests k b
+requests-front k b rest long =
+    let front = take (k * 12) b in
+    let whole : k * 12 ≤ length front = rw (length-take-le (k * 12) b long) (omega arith) in
+    requests-append k front rest whole ∙ sym (rw (take-append-drop (k * 12) b) at (requests-append k front (drop (k * 12) b) whole))
 
 pub in-parts : InParts
 unfolding turned answered share

@@ -16,6 +16,10 @@ unfoldable pub requests : ℕ → List ℕ → List Request
 requests zero b = []
 requests (suc n) b = requestAt b 0 ∷ requests n (drop 12 b)
 
+-- all whole requests of these bytes
+abbrev pub wholeRequests : List ℕ → List Request
+wholeRequests b = requests (length b / 12) b
+
 -- replies, one after another
 unfoldable pub wired : List Reply → List ℕ
 wired [] = []

@@ -9,7 +9,7 @@ use lib.Dec.{eqb}
 use Rattle.house.specs.declared.House.{House}
 use Rattle.house.specs.Opening.{opening}
 use Rattle.house.specs.Run.{finally, replies}
-use Rattle.desk.specs.Turn.{requests, wired}
+use Rattle.desk.specs.Turn.{wholeRequests, wired}
 use Rattle.dialogue.specs.declared.Dialogue.{Dialogue}
 use Rattle.dialogue.specs.declared.Stage.{Stage}
 use Rattle.dialogue.specs.declared.Stage.the-variants.{Waiting, Open, Refused}
@@ -17,7 +17,7 @@ use Rattle.dialogue.specs.Dialogue.{levels, header, refusal, started, en
 
 -- the replies to the whole requests of these bytes, and the house after them. "An unfinished last request gets no reply."
 unfoldable pub runOf : House → List ℕ → List ℕ × House
-runOf h bytes = let qs = requests (length bytes / 12) bytes in (wired (replies h qs), finally h qs)
+runOf h bytes = let qs = wholeRequests bytes in (wired (replies h qs), finally h qs)
 
 -- "one byte n, n level bytes, then requests"
 abbrev pub pastOpening : List ℕ → List ℕ

@@ -6,7 +6,7 @@ use native.Mathlib.Numerals.{add-one}
 use native.Mathlib.Omega.{arith}
 use mathlib.Core.Path.{_≡_, sym, ap, ap₂, _∙_}
 use mathlib.Core.List.{List, [], _∷_, _++_, append-assoc, map-append}
-use lib.ListN.{length, getD, take, drop, take-append-drop}
+use lib.ListN.{length, getD, take, drop}
 use lib.Seq.{length-take-le, take-all, take-suc, drop-at, paste}
 use mir.Syntax.{w16, w32}
 use mir.Val.{Fits}
@@ -16,7 +16,7 @@ use Rattle.wire.specs.RoundTrip.{FitRequest}
 use Rattle.wire.proofs.RoundTrip.{request-read-back}
 use Rattle.desk.specs.Turn.{requests}
 use Rattle.desk.proofs.Laws.{requestAt-drop, requests-last}
-use Rattle.desk.proofs.TwoTurns.{requests-append}
+use Rattle.desk.proofs.TwoTurns.{requests-front}
 use Rattle.maps.specs.Map.{readOf, reads}
 
 -- a request before others
@@ -43,9 +43,7 @@ module _ (k : ℕ) (b : List ℕ) (q : Request) (long : k * 12 ≤ length b) whe
   before-long = length-take-le (k * 12) b long
 
   same-before : requests k put ≡ requests k b
-  same-before =
-      rw put-is (requests-append k before (requestBytes q ++ behind) (rw before-long (omega arith)))
-      ∙ sym (rw (take-append-drop (k * 12) b) at (requests-append k before (drop (k * 12) b) (rw before-long (omega arith))))
+  same-before = rw put-is (requests-front k b (requestBytes q ++ behind) long)
 
   put-there : FitRequest q → requestAt put (k * 12) ≡ q
   put-there f =
