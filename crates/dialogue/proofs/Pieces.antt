@@ -6,8 +6,8 @@ use mathlib.Core.Path.{_≡_, refl, sym, ap, _∙_}
 use mathlib.Core.Logic.{inl, inr}
 use mathlib.Core.Bool.{true, false}
 use mathlib.Core.List.{List, [], _∷_, _++_, append-assoc, append-nil}
-use lib.ListN.{length, take, drop, length-append, length-drop, List·getD-append}
-use lib.Seq.{take-at, drop-drop, drop-append-le, take-append-le, drop-length}
+use lib.ListN.{length, take, drop, length-append, length-drop, take-append-drop, List·getD-append}
+use lib.Seq.{length-take-le, getD-take, take-at, drop-at, drop-drop, drop-append-le, take-append-le, drop-length}
 use lib.Dec.{eqb, ltb}
 use borrow.Author.Tests.{eqb-true, ltb-true, ltb-false, lt-ltb}
 use Rattle.house.specs.declared.House.{House}
@@ -22,7 +22,7 @@ use Rattle.dialogue.specs.declared.Fed.{Fed}
 use Rattle.dialogue.specs.declared.Dialogue.{Dialogue}
 use Rattle.dialogue.specs.declared.Stage.the-variants.{Waiting, Refused}
 use Rattle.dialogue.specs.Dialogue.{announced, decided, levels, header, refusal, atStage, started, ended, drops, serves, opens, fed}
-use Rattle.dialogue.specs.Pieces.{runOf, programmed, Piece, joined, farewell, conversed, Enough, Roomy, InPieces, LeavesLittle}
+use Rattle.dialogue.specs.Pieces.{runOf, pastOpening, programmed, Piece, joined, farewell, conversed, Enough, Roomy, InPieces, LeavesLittle}
 use Rattle.dialogue.proofs.Laws.{there, no-levels, long-opening, opened-there}
 use Rattle.dialogue.proofs.Stages.{waiting, opened, refused, at-stage}
 
@@ -98,6 +98,27 @@ module _ (b rest : List ℕ) where
   programmed-refused : decided b ≡ true → eqb (opening (levels b) .number) 0 ≡ false → programmed (b ++ rest) ≡ (refusal (opening (levels b) .number), opening (levels b) .house)
   unfolding programmed
   programmed-refused d z = rw (opening-append d, z)
+
+-- Anything may stand behind an opening that came: the levels stay, and that is what is past it
+
+module _ (input rest : List ℕ) (come : header input ≤ length input) where
+  abbrev front : List ℕ
+  front = take (header input) input
+
+  front-long : length front ≡ header input
+  front-long = length-take-le (header input) input come
+
+  front-first : announced front ≡ announced input
+  front-first = getD-take (header input) input 0 0 (omega arith)
+
+  all-levels : announced front < length front
+  all-levels = rw (front-first, front-long) (omega arith)
+
+  pub levels-stay : levels (front ++ rest) ≡ levels input
+  levels-stay = levels-append front rest all-levels ∙ sym (rw (take-append-drop (header input) input) at (levels-append front (pastOpening input) all-levels))
+
+  pub past-stays : pastOpening (front ++ rest) ≡ rest
+  past-stays = rw (announced-append front rest (omega (arith, all-levels)), front-first) (drop-at front rest (header input) front-long)
 
 -- WHAT IS STILL TO BE WRITTEN, with these bytes to come
 
