@@ -4,7 +4,7 @@ use crate::desk::Desk;
 use crate::generator;
 use crate::program::Program;
 use crate::progress::each_seed;
-use crate::run::{answer_whole, opened, output_for};
+use crate::run::{answer_whole, opened, output_for, replies_due};
 use crate::stop::Stop;
 use crate::wire::{hex, split_header, Reply, Request, REPLY_BYTES, REQUEST_BYTES};
 use crate::words;
@@ -82,6 +82,22 @@ pub fn compare_one(
     };
     let end = program.failed_end().unwrap_or_default();
     Err(Stop::Found(format!("{}\n{end}", difference.trim_end())))
+}
+
+/// What the program answers to an input, or the peer's own desk where there is none. It has to be
+/// as long as it is due to be; whether it is right is not looked at. `list` names the input.
+pub fn answer_of(command: Option<&str>, list: &str, input: &[u8]) -> Result<Vec<u8>, Stop> {
+    let Some(command) = command else {
+        return Ok(output_for(input, Desk::answer));
+    };
+    let due = replies_due(input) * REPLY_BYTES;
+    let explained = |output: &[u8]| match output.len() {
+        length if length < due => Some(format!("its output ends after {length} of {due} bytes")),
+        length if length > due => Some(format!("its output goes on after the {due} bytes due")),
+        _ => None,
+    };
+    let answer = compare_one(command, input, due, explained);
+    answer.map_err(|stop| stop.at(&format!("the {list}")))
 }
 
 /// The first byte at which two outputs differ, if they do; it may lie past the end of one.

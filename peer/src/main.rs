@@ -1,6 +1,8 @@
 //! The peer: a second desk, written from document 01 and the change requests alone, and the checks
 //! that hold another program against it.
 
+mod beside;
+mod bytes;
 mod compare;
 mod converse;
 mod cover;
@@ -10,11 +12,13 @@ mod guide;
 mod maps;
 mod program;
 mod progress;
+mod quiet;
 mod rng;
 mod run;
 mod serial;
 mod slips;
 mod stop;
+mod strike;
 mod talk;
 mod wire;
 mod words;
@@ -47,11 +51,20 @@ usage: peer COMMAND
                                  those of single reads, and the cases must meet what a map can
   map                            answer one case of a map: standard input to standard output
   map --slip K                   the same with slip K of maps (1, 2 ..) made on purpose
+  quiet PROGRAM SEEDS N [--from S]
+                                 run PROGRAM on that many inputs of gen, and on each with all
+                                 requests above a level struck, for every level; the replies
+                                 to those that stay must be the same bytes
+  beside K [PROGRAM]             show the replies to the input from standard input, and beside
+                                 them those to it with all requests above level K struck
+  beside --day [PROGRAM]         the same of a day with a teacher marking, at level 0
   converse PROGRAM               hold a dialogue with PROGRAM, one request at a time
   serial SEEDS N                 check demand 3 on random runs of the peer's own desk
   cover SEEDS N                  count the replies that gen's inputs meet
   talk [PROGRAM]                 type requests in words, see replies in words
   talk --day [PROGRAM]           play document 01's day at the desk
+  bytes                          turn lines in the words of talk, an open and requests, into
+                                 the bytes of an input: 'peer bytes < LINES | peer beside 0'
   guide FILE [PROGRAM]           play the recipes of a guide, its blocks fenced as 'talk';
                                  every byte and word must be as the guide says
   guide --write FILE [PROGRAM]   write the guide with each recipe's transcript made anew, to
@@ -113,6 +126,8 @@ fn dispatch(words: &[&str]) -> Result<(), Stop> {
         ["cover", seeds, requests] => {
             cover::cover(parse_count(seeds, "SEEDS")?, parse_requests(requests)?, &mut out)
         }
+        ["quiet", ref rest @ ..] => quiet_here(rest, &mut out),
+        ["bytes"] => bytes_here(&mut out),
         _ => with_or_without_program(words, out),
     }
 }
@@ -128,6 +143,10 @@ fn with_or_without_program(words: &[&str], mut out: io::Stdout) -> Result<(), St
         ["guide", "--write", file, program] => guide::rewrite(file, Some(program), &mut out),
         ["guide", file] if file != "--write" => guide::play(file, None, &mut out),
         ["guide", file, program] => guide::play(file, Some(program), &mut out),
+        ["beside", "--day"] => beside::day(None, &mut out),
+        ["beside", "--day", program] => beside::day(Some(program), &mut out),
+        ["beside", level] => beside_here(level, None, &mut out),
+        ["beside", level, program] => beside_here(level, Some(program), &mut out),
         _ => Err(usage(words)),
     }
 }
@@ -169,6 +188,27 @@ fn maps_here(words: &[&str], out: &mut impl Write) -> Result<(), Stop> {
 
 fn map_here(call: maps::Call, out: &mut impl Write) -> Result<(), Stop> {
     Ok(out.write_all(&maps::answer(&standard_input()?, call)?)?)
+}
+
+fn quiet_here(words: &[&str], out: &mut impl Write) -> Result<(), Stop> {
+    match split_from(words)? {
+        (&[program, seeds, requests], from) => {
+            let requests = parse_requests(requests)?;
+            quiet::quiet(program, requests, from, parse_count(seeds, "SEEDS")?, out)
+        }
+        _ => Err(usage(&["quiet"])),
+    }
+}
+
+fn beside_here(level: &str, program: Option<&str>, out: &mut impl Write) -> Result<(), Stop> {
+    let level = words::number(Some(level), "a level", u8::MAX.into()).map_err(Stop::Cannot)?;
+    beside::beside(level as u8, &standard_input()?, program, out)
+}
+
+fn bytes_here(out: &mut impl Write) -> Result<(), Stop> {
+    let lines = standard_input()?;
+    let input = bytes::input_of(&String::from_utf8_lossy(&lines)).map_err(Stop::Cannot)?;
+    Ok(out.write_all(&input)?)
 }
 
 fn standard_input() -> Result<Vec<u8>, Stop> {

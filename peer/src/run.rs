@@ -1,7 +1,7 @@
 //! The running desk: bytes in, bytes out, in whatever pieces they arrive.
 
 use crate::desk::{Desk, Refusal, MOST_ITEMS};
-use crate::wire::{Reply, Request, REQUEST_BYTES};
+use crate::wire::{split_header, Reply, Request, REQUEST_BYTES};
 use std::io::{self, Read, Write};
 
 /// How a desk answers: `Desk::answer`, or one of the deliberate slips.
@@ -108,6 +108,13 @@ pub fn opened(header: &[u8]) -> Option<Desk> {
     run.desk().cloned()
 }
 
+/// How many replies are due to a whole input: one to each whole request, or one to an opening that
+/// is refused or cut short.
+pub fn replies_due(input: &[u8]) -> usize {
+    let (header, requests) = split_header(input);
+    opened(header).map_or(1, |_| requests.len() / REQUEST_BYTES)
+}
+
 /// All that the program writes for this whole input.
 pub fn output_for(input: &[u8], answer: Answer) -> Vec<u8> {
     let mut run = Run::new(answer);
@@ -141,6 +148,7 @@ mod tests {
     use super::*;
     use crate::generator;
     use crate::talk::{DAY_INPUT, DAY_OUTPUT};
+    use crate::wire::REPLY_BYTES;
 
     fn refused(number: u8) -> Vec<u8> {
         Reply { number, ..Reply::default() }.to_bytes().to_vec()
@@ -183,6 +191,16 @@ mod tests {
                 }
                 output.extend(run.end());
                 assert_eq!(output, whole, "seed {seed} in pieces of {size}");
+            }
+        }
+    }
+
+    #[test]
+    fn as_many_replies_come_as_are_due() {
+        for seed in 0..200 {
+            for input in [generator::input(seed, 20), generator::random_bytes(seed)] {
+                let output = output_for(&input, Desk::answer);
+                assert_eq!(output.len(), replies_due(&input) * REPLY_BYTES, "seed {seed}");
             }
         }
     }

@@ -2,11 +2,11 @@
 //! on purpose: a desk that behaves but for one slip. The checks must find each of them, or they are
 //! not worth running.
 
-use crate::desk::{Desk, Place, Refusal, Standing};
+use crate::desk::{Desk, Place, Refusal, Standing, LEVELS};
 use crate::run::Answer;
 use crate::wire::{Operation, Reply, Request};
 
-pub const SLIPS: [(&str, Answer); 9] = [
+pub const SLIPS: [(&str, Answer); 11] = [
     ("tells the certifier how many readers were signalled", tells_count),
     ("delays a certify for a reader above", delays_for_reader_above),
     ("counts a transaction's own read lock against its certify", counts_own_read),
@@ -16,6 +16,8 @@ pub const SLIPS: [(&str, Answer); 9] = [
     ("takes a blank sheet", takes_blank),
     ("tells of a blank sheet before it looks whose item it is", tells_blank_early),
     ("tells of a blank sheet only where nothing else is wrong", tells_blank_late),
+    ("counts the tickets of all levels with one counter", counts_tickets_together),
+    ("begins while any of the 32 places is free", begins_in_any_place),
 ];
 
 fn delayed(request: &Request) -> Reply {
@@ -137,5 +139,29 @@ fn tells_blank_late(desk: &mut Desk, request: &Request) -> Reply {
         reply
     } else {
         otherwise
+    }
+}
+
+fn counts_tickets_together(desk: &mut Desk, request: &Request) -> Reply {
+    let reply = desk.answer(request);
+    if request.is(Operation::Begin) && reply.number == 0 {
+        desk.next_ticket = [desk.next_ticket[usize::from(request.level)]; LEVELS as usize];
+    }
+    reply
+}
+
+/// Where its level has no place left, the transaction takes a free one of another level, which is
+/// its own level's from then on.
+fn begins_in_any_place(desk: &mut Desk, request: &Request) -> Reply {
+    let reply = desk.answer(request);
+    if reply.number != Refusal::PlacesTaken.number() {
+        return reply;
+    }
+    match desk.places.iter_mut().find(|place| !place.is_taken()) {
+        Some(place) => {
+            place.level = request.level;
+            desk.answer(request)
+        }
+        None => reply,
     }
 }

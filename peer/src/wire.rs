@@ -161,6 +161,12 @@ pub fn requests_in(bytes: &[u8]) -> impl Iterator<Item = Request> + '_ {
     whole.filter_map(|bytes| bytes.first_chunk()).map(Request::from_bytes)
 }
 
+/// The whole replies of these bytes.
+pub fn replies_in(bytes: &[u8]) -> impl Iterator<Item = Reply> + '_ {
+    let whole = bytes.chunks_exact(REPLY_BYTES);
+    whole.filter_map(|bytes| bytes.first_chunk()).map(Reply::from_bytes)
+}
+
 /// Bytes as the document prints them: `01 00 ff`.
 pub fn hex(bytes: &[u8]) -> String {
     let words: Vec<String> = bytes.iter().map(|byte| format!("{byte:02x}")).collect();

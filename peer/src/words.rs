@@ -160,7 +160,7 @@ pub fn parse_request(line: &str) -> Result<Request, String> {
     let operation = Operation::ALL
         .into_iter()
         .find(|operation| operation.name() == verb)
-        .ok_or_else(|| format!("'{verb}' is not known here; 'help' lists what is"))?;
+        .ok_or_else(|| format!("'{verb}' is not known here; 'help' in talk lists what is"))?;
     let level = number(words.next(), "a level", u8::MAX.into())? as u8;
     let (mut ticket, mut item, mut value) = (None, None, None);
     while let Some(word) = words.next() {

@@ -8,7 +8,7 @@ use std::process::{Command, Output, Stdio};
 const PEER: &str = env!("CARGO_BIN_EXE_peer");
 
 fn peer(arguments: &[&str]) -> Output {
-    Command::new(PEER).args(arguments).stdin(Stdio::null()).output().expect("the peer starts")
+    peer_with_input(arguments, b"")
 }
 
 fn peer_with_input(arguments: &[&str], input: &[u8]) -> Output {
@@ -16,7 +16,7 @@ fn peer_with_input(arguments: &[&str], input: &[u8]) -> Output {
         .args(arguments)
         .stdin(Stdio::piped())
         .stdout(Stdio::piped())
-        .stderr(Stdio::null())
+        .stderr(Stdio::piped())
         .spawn()
         .expect("the peer starts");
     // It may end before it reads; what it says is what counts.
@@ -38,7 +38,11 @@ fn script(name: &str, lines: &str) -> String {
 
 /// Checks the exit status and that all of `wanted` is said on either stream.
 fn assert_says(arguments: &[&str], status: i32, wanted: &[&str]) {
-    let output = peer(arguments);
+    assert_says_of(b"", arguments, status, wanted);
+}
+
+fn assert_says_of(input: &[u8], arguments: &[&str], status: i32, wanted: &[&str]) {
+    let output = peer_with_input(arguments, input);
     let text = String::from_utf8_lossy(&[output.stdout, output.stderr].concat()).into_owned();
     assert_eq!(output.status.code(), Some(status), "{arguments:?}: {text}");
     for words in wanted {
@@ -59,11 +63,109 @@ fn the_peer_agrees_with_itself() {
 
 #[test]
 fn compare_finds_every_slip() {
-    for slip in 1..=6 {
+    for slip in 1..=11 {
         let program = format!("{PEER} slip {slip}");
         let wanted = ["the outputs differ", "they differ in", "the house before it"];
         assert_says(&["compare", &program, "100", "400"], 1, &wanted);
     }
+}
+
+#[test]
+fn quiet_finds_what_a_level_below_can_notice() {
+    let wanted = [
+        ("1", " certifies", "they differ in value (whole list: 3, struck list: 0)"),
+        ("2", " certifies", "they differ in number (whole list: 1, struck list: 0)"),
+        ("10", "begin at level 0", "they differ in ticket (whole list: 21, struck list: 1)"),
+        ("11", "begin at level 0", "they differ in number (whole list: 11, struck list: 0)"),
+    ];
+    for (slip, request, fields) in wanted {
+        let where_found =
+            "with the requests above level 0 struck: a reply is not the same\nrequest";
+        let wanted = ["input of 'peer gen", where_found, request, fields, "the house before it"];
+        assert_says(&["quiet", &format!("{PEER} slip {slip}"), "100", "400"], 1, &wanted);
+    }
+}
+
+/// `compare` finds these slips; but no level notices by them what is above it.
+#[test]
+fn quiet_is_about_what_is_above_and_not_about_agreement() {
+    for slip in 3..=9 {
+        let program = format!("{PEER} slip {slip}");
+        assert_says(&["quiet", &program, "20", "400"], 0, &["struck 20 inputs", ": no difference"]);
+    }
+    let program = format!("{PEER} slip 6");
+    let wanted =
+        ["a done begin while eight or more above are open: ", "at level 2\n", "at level 3\n"];
+    assert_says(&["quiet", &program, "100", "400", "--from", "900"], 0, &wanted);
+}
+
+#[test]
+fn quiet_finds_programs_that_are_no_desk_and_lists_that_try_too_little() {
+    assert_says(&["quiet", "true", "3", "10"], 1, &["the whole list: its output ends after 0 of"]);
+    let program = script("writes_one_byte_more", &format!("'{PEER}' run; printf x"));
+    assert_says(&["quiet", &program, "3", "10"], 1, &["the whole list: its output goes on after"]);
+    assert_says(&["quiet", "no-such-program", "3", "10"], 2, &["cannot start"]);
+    // It answers as a desk does, but ends in another way on an input that is too short for it.
+    let (kept, whole) = (file("kept", ""), peer(&["gen", "0", "20"]).stdout.len());
+    let lines =
+        format!("cat >'{kept}'; '{PEER}' run <'{kept}'; exit $(($(wc -c <'{kept}') < {whole}))");
+    let wanted = ["with the requests above level 0 struck: it ended with exit status 1"];
+    assert_says(&["quiet", &script("wants_more", &lines), "1", "20"], 1, &wanted);
+    let own = format!("{PEER} run");
+    assert_says(&["quiet", &own, "3", "10", "--from", "7"], 0, &["struck 3 inputs"]);
+    let wanted = ["at level 0 the lists never met a done certify of what somebody above has read"];
+    assert_says(&["quiet", &own, "100", "5"], 1, &wanted);
+}
+
+#[test]
+fn beside_shows_a_day_with_and_without_a_teacher() {
+    let wanted = [
+        "a day with a teacher marking and the same day without\nin a house with 3 items",
+        "the whole list                                   the struck list: without levels above 0",
+        "  1 begin at level 0                                 the same\n    00 00 00 00 01 00 00",
+        "  2 begin at level 2                                 struck\n    00 00 00 00 01 00 00",
+        "00 00 00 00\n    2, refused: the transaction is signalled",
+        "01 00 00 00  00 01 01 00 03 00 00 00 08 00 00 00 01 00 00 00\n    done: value 8, ",
+        "11 requests stay, 10 were struck; every reply to those that stay is the same, byte for",
+    ];
+    assert_says(&["beside", "--day"], 0, &wanted);
+    assert_says(&["beside", "--day", &format!("{PEER} run")], 0, &wanted);
+    let wanted = [
+        "  6 level 0 #1 certifies                             NOT THE SAME",
+        "they differ in value (whole list: 1, struck list: 0)",
+        "11 requests stay, 10 were struck; replies that are not the same: 1",
+    ];
+    assert_says(&["beside", "--day", &format!("{PEER} slip 1")], 1, &wanted);
+}
+
+#[test]
+fn beside_takes_any_input() {
+    let day = b"open 1 0\n\nbegin 1\nmap 1 #1 items 0 1\nraw 0 9 0 0 0 0 0 0 0 0 0 0\nbegin 0\n";
+    let input = peer_with_input(&["bytes"], day).stdout;
+    for (level, counts) in [("0", "1 requests stay, 4"), ("8", "4 requests stay, 1")] {
+        assert_says_of(&input, &["beside", level], 0, &["4, refused: level above 3", counts]);
+    }
+    let refused = [&[1, 7][..], &input[3..]].concat();
+    let own = format!("{PEER} run");
+    let wanted =
+        ["  1 the opening is refused: 01 07 ", "14, refused", "no request is answered; the reply"];
+    assert_says_of(&refused, &["beside", "0", &own], 0, &wanted);
+    assert_says(&["beside", "0", &own], 0, &["the opening is refused: no bytes", "13, refused"]);
+    let silent = ["the whole list: its output ends after 0 of 80 bytes"];
+    assert_says_of(&input, &["beside", "0", "true"], 1, &silent);
+    let program = script("beside_ends_with_3", &format!("'{PEER}' run; exit 3"));
+    let wanted = ["the whole list: it ended with exit status 3"];
+    assert_says_of(&input, &["beside", "0", &program], 1, &wanted);
+}
+
+#[test]
+fn bytes_tells_the_line_that_is_no_request() {
+    let day = b"open 0\nbegin 0\nwrite 0 #1 item 0 = 7\nread 0 #1 item 0\n";
+    let input = peer_with_input(&["bytes"], day).stdout;
+    assert_eq!(peer_with_input(&["run"], &input).stdout.len(), 3 * 16);
+    let wanted = ["line 3: 'dance' is not known here"];
+    assert_says_of(b"open 0\nbegin 0\ndance 0\n", &["bytes"], 2, &wanted);
+    assert_says(&["bytes"], 2, &["there is no line: open a house first"]);
 }
 
 #[test]
@@ -197,6 +299,11 @@ fn wrong_usage_is_told() {
     assert_says(&["maps", "x"], 2, &["wrong usage of maps", "maps PROGRAM COUNT"]);
     assert_says(&["maps", "x", "0"], 2, &["COUNT has to be at least 1"]);
     assert_says(&["map", "x"], 2, &["wrong usage of map;", "map --slip K"]);
+    assert_says(&["quiet", "x", "1"], 2, &["wrong usage of quiet", "quiet PROGRAM SEEDS N"]);
+    assert_says(&["quiet", "x", "0", "400"], 2, &["SEEDS has to be at least 1"]);
+    assert_says(&["beside"], 2, &["wrong usage of beside", "beside K", "beside --day"]);
+    assert_says(&["beside", "256"], 2, &["'256' is not a level: a number from 0 to 255 is wanted"]);
+    assert_says(&["bytes", "x"], 2, &["wrong usage of bytes"]);
     assert_says(&["slip", "0"], 2, &["there is no slip 0"]);
     assert_says(&["--help"], 0, &["usage: peer COMMAND"]);
 }

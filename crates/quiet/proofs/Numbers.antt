@@ -1,0 +1,191 @@
+-- Two houses that are alike up to k give a request of a level up to k the same number: each test looks only at what is alike.
+-- Assumes nothing.
+use Prim.Native.Nat.{ℕ, _*_, _/_, _<_}
+use native.Mathlib.Omega.{arith}
+use mathlib.Core.Path.{_≡_, refl, sym, ap, ap₂, _∙_}
+use mathlib.Core.Logic.{inl, inr}
+use mathlib.Core.Bool.{Bool, true, false, _&&_, _||_, not, cond}
+use mathlib.Core.List.{List, [], _∷_}
+use lib.Dec.{eqb, leb}
+use borrow.Author.Tests.{eqb-true}
+use Rattle.house.specs.declared.Found.{Found}
+use Rattle.house.specs.declared.Found.the-variants.{At, Nobody}
+use Rattle.house.specs.declared.House.{House}
+use Rattle.house.specs.declared.Mark.{Mark}
+use Rattle.house.specs.declared.Mark.the-variants.{Read, Write, Certify, Signalled}
+use Rattle.house.specs.declared.Request.{Request}
+use Rattle.house.specs.Search.{any, ifFound, nobody}
+use Rattle.house.specs.Cell.{has, cellAt, holds, anotherHolds, otherHolds, peerHolds, isSignalled}
+use Rattle.house.specs.House.{vacant, dominates, levelOf, itemAt, placeAt, freeAt, isActive, isCertified, hasTicket, seek, vacancy}
+use Rattle.house.specs.Checks.{foremost}
+use Rattle.house.specs.Rules.{begin, read, write, certify, commit, _does_, asker, usesItem, unknown, noItem, forbidden, stopped, untimely, wornOut, crowded, ticketless, waitsAt, conflict, delayed, refusals, verdict}
+use Rattle.house.proofs.Tests.{is, clash, or-false, or-right, not-is}
+use Rattle.house.proofs.Searches.{scan-same}
+use Rattle.house.proofs.Places.{seek-at}
+use Rattle.house.proofs.Levels.{dominates-on}
+use Rattle.house.proofs.Checks.{Clear, clear, level-there, item-there, verdict-is}
+use Rattle.reach.proofs.Law.{held, held-write, held-certify, Law, same-count}
+use Rattle.quiet.specs.Alike.{stays, Alike}
+use Rattle.quiet.proofs.Alike.{level-alike}
+
+-- two lists of checks that agree as far as they are read: those behind a test are looked at where it does not apply
+data Agree : List (ℕ × Bool) → List (ℕ × Bool) → Type 0 where
+  none : Agree [] []
+  check : (n : ℕ) {a b : Bool} {xs ys : List (ℕ × Bool)} → a ≡ b → (a ≡ false → Agree xs ys) → Agree ((n, a) ∷ xs) ((n, b) ∷ ys)
+
+agreed : {xs ys : List (ℕ × Bool)} → Agree xs ys → foremost xs ≡ foremost ys
+agreed none = refl
+agreed (check n {a} e f) = elim (is a) [ inl t ↦ rw (t, sym e ∙ t) | inr t ↦ rw (t, sym e ∙ t) (agreed (f t)) ]
+
+module _ (k : ℕ) {h g : House} (L : Law h) (M : Law g) (A : Alike k h g) where
+  -- the two searches over the places of a level
+  module _ (l : ℕ) (b : l < 4) (d : dominates k l ≡ true) where
+    place-alike : (p : ℕ) → levelOf p ≡ l → placeAt (h .places) p ≡ placeAt (g .places) p
+    place-alike p e = A .places p (omega arith) (rw e d)
+
+    seek-alike : (t : ℕ) → seek (h .places) l t ≡ seek (g .places) l t
+    unfolding seek hasTicket freeAt
+    seek-alike t = scan-same _ _ _ _ (l * 8) 8 (λ p x y. rw (place-alike p (omega arith)))
+
+    pub vacancy-alike : vacancy (h .places) l ≡ vacancy (g .places) l
+    unfolding vacancy freeAt
+    vacancy-alike = scan-same _ _ _ _ (l * 8) 8 (λ p x y. rw (place-alike p (omega arith)))
+
+  -- Who holds what. On an item of a level up to k nobody above k has a write or certify lock: those are at the item's level
+  module _ (m : Mark) (writes : (c : ℕ) → has m c ≡ true → held c ≡ true) (i : ℕ) (a : i < 64) (d : dominates k (itemAt (h .items) i .level) ≡ true) where
+    unheld : {f : House} → Law f → itemAt (h .items) i .level ≡ itemAt (f .items) i .level → (p : ℕ) → p < 32 → dominates k (levelOf p) ≡ false → has m (cellAt (f .cells) p i) ≡ false
+    unheld {f} N e p b n = elim (is (has m (cellAt (f .cells) p i))) [ inl y ↦ clash (rw (e, N .cells p i b a .owned (writes _ y)) at d) n | inr y ↦ y ]
+
+    held-alike : (p : ℕ) → p < 32 → has m (cellAt (h .cells) p i) ≡ has m (cellAt (g .cells) p i)
+    held-alike p b =
+        elim (is (dominates k (levelOf p))) [
+          | inl y ↦ ap (has m) (A .cells p i b a y)
+          | inr n ↦ unheld L refl p b n ∙ sym (unheld M (level-alike A i) p b n)
+        ]
+
+    other-alike : (me : ℕ) → otherHolds (h .cells) m me i ≡ otherHolds (g .cells) m me i
+    unfolding otherHolds anotherHolds holds
+    other-alike me = scan-same _ _ _ _ 0 32 (λ p x y. ap (λ b. not (eqb p me) && b) (held-alike p (omega arith)))
+
+  module _ (me : ℕ) (m : me < 32) (d : dominates k (levelOf me) ≡ true) where
+    pub mark-alike : (n : Mark) (i : ℕ) → i < 64 → holds (h .cells) n me i ≡ holds (g .cells) n me i
+    unfolding holds
+    mark-alike n i a = ap (has n) (A .cells me i m a d)
+
+    signalled-alike : isSignalled (h .cells) me ≡ isSignalled (g .cells) me
+    unfolding isSignalled
+    signalled-alike = scan-same _ _ _ _ 0 64 (λ i x y. mark-alike Signalled i (omega arith))
+
+    peer-alike : (i : ℕ) → i < 64 → peerHolds (h .cells) Read me i ≡ peerHolds (g .cells) Read me i
+    unfolding peerHolds anotherHolds holds
+    peer-alike i a =
+        scan-same _ _ _ _ (me / 8 * 8) 8
+        (λ p x y. let e : levelOf p ≡ levelOf me = omega arith in ap (λ c. not (eqb p me) && has Read c) (A .cells p i (omega arith) a (rw e d)))
+
+    waits-alike : any (waitsAt (h .cells) me) 0 64 ≡ any (waitsAt (g .cells) me) 0 64
+    unfolding waitsAt
+    waits-alike = scan-same _ _ _ _ 0 64 (λ i x y. ap₂ _&&_ (mark-alike Write i (omega arith)) (peer-alike i (omega arith)))
+
+  module _ (q : Request) (d : stays k q ≡ true) where
+    -- an item that may be read or written is of a level up to k
+    pub item-seen : usesItem q ≡ true → forbidden h q ≡ false → dominates k (itemAt (h .items) (q .item) .level) ≡ true
+    unfolding forbidden
+    item-seen u e =
+        elim (is (q does read)) [
+          | inl r ↦ dominates-on k (q .level) _ d (not-is _ (rw r at e))
+          | inr n ↦ let w : q does write ≡ true = rw n at u in rw (eqb-true (itemAt (h .items) (q .item) .level) (q .level) (not-is _ (rw (n, w) at e))) d
+        ]
+
+    module _ (b : q .level < 4) where
+      pub asker-alike : asker h q ≡ asker g q
+      asker-alike = seek-alike (q .level) b d (q .ticket)
+
+      -- what is asked of the asker is asked of one at a level up to k
+      by-asker : {X : Type 0} (x y : ℕ → X) (z : X) → ((me : ℕ) → me < 32 → dominates k (levelOf me) ≡ true → x me ≡ y me) → ifFound (asker h q) x z ≡ ifFound (asker g q) y z
+      by-asker x y z e = either (asker h q) refl ∙ ap (λ who. ifFound who y z) asker-alike
+        where
+          either : (who : Found) → asker h q ≡ who → ifFound who x z ≡ ifFound who y z
+          either (At me) s = let w = seek-at (h .places) (q .level) (q .ticket) me b s .within in e me (w .place) (rw (w .level) d)
+          either Nobody s = refl
+
+      -- the tests, in the order of the checks
+      unknown-alike : unknown h q ≡ unknown g q
+      unfolding unknown
+      unknown-alike = ap (λ who. not (q does begin) && nobody who) asker-alike
+
+      item-alike : noItem h q ≡ noItem g q
+      unfolding noItem
+      item-alike = ap (λ c. usesItem q && (leb c (q .item) || leb 64 (q .item))) (same-count h g (A .fixed))
+
+      forbidden-alike : forbidden h q ≡ forbidden g q
+      unfolding forbidden
+      forbidden-alike = rw (level-alike A (q .item))
+
+      stopped-alike : stopped h q ≡ stopped g q
+      unfolding stopped
+      stopped-alike = ap (λ s. (q does read || q does write || q does certify || q does commit) && s) (by-asker (isSignalled (h .cells)) (isSignalled (g .cells)) false signalled-alike)
+
+      untimely-alike : untimely h q ≡ untimely g q
+      unfolding untimely
+      untimely-alike =
+          ap (λ s. cond (q does read || q does write || q does certify) (isCertified s) (cond (q does commit) (isActive s) false))
+          (by-asker (λ me. placeAt (h .places) me .standing) (λ me. placeAt (g .places) me .standing) (vacant .standing) (λ me m low. ap (λ x. x .standing) (A .places me m low)))
+
+      worn-alike : noItem h q ≡ false → forbidden h q ≡ false → wornOut h q ≡ wornOut g q
+      unfolding wornOut
+      worn-alike c7 c8 =
+          elim (is (q does write)) [
+            | inl w ↦ let u = or-right (q does read) (q does write) w in rw (A .items (q .item) (item-there h q u c7 .1) (item-seen u c8) .0)
+            | inr n ↦ rw n
+          ]
+
+      crowded-alike : crowded h q ≡ crowded g q
+      unfolding crowded
+      crowded-alike = ap (λ who. q does begin && nobody who) (vacancy-alike (q .level) b d)
+
+      ticketless-alike : ticketless h q ≡ ticketless g q
+      unfolding ticketless
+      ticketless-alike = ap (λ t. q does begin && eqb t 0) (A .tickets (q .level) b d)
+
+      conflict-alike : noItem h q ≡ false → forbidden h q ≡ false → (me : ℕ) → me < 32 → dominates k (levelOf me) ≡ true → conflict (h .cells) q me ≡ conflict (g .cells) q me
+      unfolding conflict
+      conflict-alike c7 c8 me m low =
+          elim (is (usesItem q)) [
+            | inl u ↦
+                let i = item-there h q u c7 .1 in
+                let s = item-seen u c8 in
+                rw (other-alike Certify held-certify (q .item) i s me, other-alike Write held-write (q .item) i s me, waits-alike me m low)
+            | inr n ↦ let none = or-false (q does read) (q does write) n in rw (none .0, none .1, waits-alike me m low)
+          ]
+
+      pub delayed-alike : Clear h q → delayed h q ≡ delayed g q
+      unfolding delayed
+      delayed-alike c = by-asker (conflict (h .cells) q) (conflict (g .cells) q) false (conflict-alike (c .present) (c .allowed))
+
+    refusals-agree : Agree (refusals h q) (refusals g q)
+    unfolding refusals
+    refusals-agree =
+        check 3 refl
+        (λ c3. check 4 refl
+        (λ c4. let b = level-there q c4 in check 5 refl
+        (λ c5. check 6 (unknown-alike b)
+        (λ c6. check 7 (item-alike b)
+        (λ c7. check 8 (forbidden-alike b)
+        (λ c8. check 15 refl
+        (λ c15. check 2 (stopped-alike b)
+        (λ c2. check 9 (untimely-alike b)
+        (λ c9. check 10 (worn-alike b c7 c8)
+        (λ c10. check 11 (crowded-alike b)
+        (λ c11. check 12 (ticketless-alike b)
+        (λ c12. none))))))))))))
+
+    refusals-alike : foremost (refusals h q) ≡ foremost (refusals g q)
+    refusals-alike = agreed refusals-agree
+
+    pub verdict-alike : verdict h q ≡ verdict g q
+    verdict-alike =
+        rw (verdict-is h q, verdict-is g q, ← refusals-alike)
+        (elim (is (eqb (foremost (refusals h q)) 0)) [
+          | inl z ↦ let c = clear h q (eqb-true _ 0 z) in rw (delayed-alike (c .level) c)
+          | inr n ↦ rw n
+        ])
