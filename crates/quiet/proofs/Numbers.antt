@@ -1,4 +1,5 @@
--- Two houses that are alike up to k give a request of a level up to k the same number: each test looks only at what is alike.
+-- Two houses that are alike up to k give a request of a level up to k the same number: each test looks only at what is alike. The law of
+-- the house is needed for the delay alone.
 -- Assumes nothing.
 use Prim.Native.Nat.{ℕ, _*_, _/_, _<_}
 use native.Mathlib.Omega.{arith}
@@ -37,7 +38,7 @@ agreed : {xs ys : List (ℕ × Bool)} → Agree xs ys → foremost xs ≡ foremo
 agreed none = refl
 agreed (check n {a} e f) = elim (is a) [ inl t ↦ rw (t, sym e ∙ t) | inr t ↦ rw (t, sym e ∙ t) (agreed (f t)) ]
 
-module _ (k : ℕ) {h g : House} (L : Law h) (M : Law g) (A : Alike k h g) where
+module _ (k : ℕ) {h g : House} (A : Alike k h g) where
   -- the two searches over the places of a level
   module _ (l : ℕ) (b : l < 4) (d : dominates k l ≡ true) where
     place-alike : (p : ℕ) → levelOf p ≡ l → placeAt (h .places) p ≡ placeAt (g .places) p
@@ -50,22 +51,6 @@ module _ (k : ℕ) {h g : House} (L : Law h) (M : Law g) (A : Alike k h g) where
     pub vacancy-alike : vacancy (h .places) l ≡ vacancy (g .places) l
     unfolding vacancy freeAt
     vacancy-alike = scan-same _ _ _ _ (l * 8) 8 (λ p x y. rw (place-alike p (omega arith)))
-
-  -- Who holds what. On an item of a level up to k nobody above k has a write or certify lock: those are at the item's level
-  module _ (m : Mark) (writes : (c : ℕ) → has m c ≡ true → held c ≡ true) (i : ℕ) (a : i < 64) (d : dominates k (itemAt (h .items) i .level) ≡ true) where
-    unheld : {f : House} → Law f → itemAt (h .items) i .level ≡ itemAt (f .items) i .level → (p : ℕ) → p < 32 → dominates k (levelOf p) ≡ false → has m (cellAt (f .cells) p i) ≡ false
-    unheld {f} N e p b n = elim (is (has m (cellAt (f .cells) p i))) [ inl y ↦ clash (rw (e, N .cells p i b a .owned (writes _ y)) at d) n | inr y ↦ y ]
-
-    held-alike : (p : ℕ) → p < 32 → has m (cellAt (h .cells) p i) ≡ has m (cellAt (g .cells) p i)
-    held-alike p b =
-        elim (is (dominates k (levelOf p))) [
-          | inl y ↦ ap (has m) (A .cells p i b a y)
-          | inr n ↦ unheld L refl p b n ∙ sym (unheld M (level-alike A i) p b n)
-        ]
-
-    other-alike : (me : ℕ) → otherHolds (h .cells) m me i ≡ otherHolds (g .cells) m me i
-    unfolding otherHolds anotherHolds holds
-    other-alike me = scan-same _ _ _ _ 0 32 (λ p x y. ap (λ b. not (eqb p me) && b) (held-alike p (omega arith)))
 
   module _ (me : ℕ) (m : me < 32) (d : dominates k (levelOf me) ≡ true) where
     pub mark-alike : (n : Mark) (i : ℕ) → i < 64 → holds (h .cells) n me i ≡ holds (g .cells) n me i
@@ -147,21 +132,6 @@ module _ (k : ℕ) {h g : House} (L : Law h) (M : Law g) (A : Alike k h g) where
       unfolding ticketless
       ticketless-alike = ap (λ t. q does begin && eqb t 0) (A .tickets (q .level) b d)
 
-      conflict-alike : noItem h q ≡ false → forbidden h q ≡ false → (me : ℕ) → me < 32 → dominates k (levelOf me) ≡ true → conflict (h .cells) q me ≡ conflict (g .cells) q me
-      unfolding conflict
-      conflict-alike c7 c8 me m low =
-          elim (is (usesItem q)) [
-            | inl u ↦
-                let i = item-there h q u c7 .1 in
-                let s = item-seen u c8 in
-                rw (other-alike Certify held-certify (q .item) i s me, other-alike Write held-write (q .item) i s me, waits-alike me m low)
-            | inr n ↦ let none = or-false (q does read) (q does write) n in rw (none .0, none .1, waits-alike me m low)
-          ]
-
-      pub delayed-alike : Clear h q → delayed h q ≡ delayed g q
-      unfolding delayed
-      delayed-alike c = by-asker (conflict (h .cells) q) (conflict (g .cells) q) false (conflict-alike (c .present) (c .allowed))
-
     refusals-agree : Agree (refusals h q) (refusals g q)
     unfolding refusals
     refusals-agree =
@@ -182,10 +152,44 @@ module _ (k : ℕ) {h g : House} (L : Law h) (M : Law g) (A : Alike k h g) where
     refusals-alike : foremost (refusals h q) ≡ foremost (refusals g q)
     refusals-alike = agreed refusals-agree
 
-    pub verdict-alike : verdict h q ≡ verdict g q
-    verdict-alike =
-        rw (verdict-is h q, verdict-is g q, ← refusals-alike)
-        (elim (is (eqb (foremost (refusals h q)) 0)) [
-          | inl z ↦ let c = clear h q (eqb-true _ 0 z) in rw (delayed-alike (c .level) c)
-          | inr n ↦ rw n
-        ])
+  -- and the delay
+  module _ (L : Law h) (M : Law g) where
+    -- on an item of a level up to k nobody above k has a write or certify lock: those are at the item's level
+    module _ (m : Mark) (writes : (c : ℕ) → has m c ≡ true → held c ≡ true) (i : ℕ) (a : i < 64) (d : dominates k (itemAt (h .items) i .level) ≡ true) where
+      unheld : {f : House} → Law f → itemAt (h .items) i .level ≡ itemAt (f .items) i .level → (p : ℕ) → p < 32 → dominates k (levelOf p) ≡ false → has m (cellAt (f .cells) p i) ≡ false
+      unheld {f} N e p b n = elim (is (has m (cellAt (f .cells) p i))) [ inl y ↦ clash (rw (e, N .cells p i b a .owned (writes _ y)) at d) n | inr y ↦ y ]
+
+      held-alike : (p : ℕ) → p < 32 → has m (cellAt (h .cells) p i) ≡ has m (cellAt (g .cells) p i)
+      held-alike p b =
+          elim (is (dominates k (levelOf p))) [
+            | inl y ↦ ap (has m) (A .cells p i b a y)
+            | inr n ↦ unheld L refl p b n ∙ sym (unheld M (level-alike A i) p b n)
+          ]
+
+      other-alike : (me : ℕ) → otherHolds (h .cells) m me i ≡ otherHolds (g .cells) m me i
+      unfolding otherHolds anotherHolds holds
+      other-alike me = scan-same _ _ _ _ 0 32 (λ p x y. ap (λ b. not (eqb p me) && b) (held-alike p (omega arith)))
+
+    module _ (q : Request) (d : stays k q ≡ true) where
+      conflict-alike : Clear h q → (me : ℕ) → me < 32 → dominates k (levelOf me) ≡ true → conflict (h .cells) q me ≡ conflict (g .cells) q me
+      unfolding conflict
+      conflict-alike c me m low =
+          elim (is (usesItem q)) [
+            | inl u ↦
+                let i = item-there h q u (c .present) .1 in
+                let s = item-seen q d u (c .allowed) in
+                rw (other-alike Certify held-certify (q .item) i s me, other-alike Write held-write (q .item) i s me, waits-alike me m low)
+            | inr n ↦ let none = or-false (q does read) (q does write) n in rw (none .0, none .1, waits-alike me m low)
+          ]
+
+      delayed-alike : Clear h q → delayed h q ≡ delayed g q
+      unfolding delayed
+      delayed-alike c = by-asker q d (c .level) (conflict (h .cells) q) (conflict (g .cells) q) false (conflict-alike c)
+
+      pub verdict-alike : verdict h q ≡ verdict g q
+      verdict-alike =
+          rw (verdict-is h q, verdict-is g q, ← refusals-alike q d)
+          (elim (is (eqb (foremost (refusals h q)) 0)) [
+            | inl z ↦ rw (delayed-alike (clear h q (eqb-true _ 0 z)))
+            | inr n ↦ rw n
+          ])

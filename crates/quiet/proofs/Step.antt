@@ -69,7 +69,7 @@ module _ (k : ℕ) {h g : House} (L : Law h) (M : Law g) (A : Alike k h g) where
   -- a change by a transaction of a level up to k
   module _ (me : ℕ) (m : me < 32) (d : dominates k (levelOf me) ≡ true) where
     mine : (n : Mark) (i : ℕ) → i < 64 → holds (h .cells) n me i ≡ holds (g .cells) n me i
-    mine = mark-alike k L M A me m d
+    mine = mark-alike k A me m d
 
     -- one of its cells marked
     cells-alike : (n : Mark) (i : ℕ) → i < 64 → (p j : ℕ) → p < 32 → j < 64 → dominates k (levelOf p) ≡ true → cellAt (withMark n (h .cells) me i) p j ≡ cellAt (withMark n (g .cells) me i) p j
@@ -172,7 +172,7 @@ module _ (k : ℕ) {h g : House} (L : Law h) (M : Law g) (A : Alike k h g) where
     served-alike : (me : ℕ) → me < 32 → dominates k (levelOf me) ≡ true → Answers k (served h q me) (served g q me)
     unfolding served
     served-alike me m low =
-        choose k (q does read) _ _ _ _ (λ r. let u = or-left (q does read) (q does write) r in (ap (replied q) (pair-alike me m low (q .item) (row u) (item-seen k L M A q d u (c .allowed))), read-alike me m low (q .item) (row u)))
+        choose k (q does read) _ _ _ _ (λ r. let u = or-left (q does read) (q does write) r in (ap (replied q) (pair-alike me m low (q .item) (row u) (item-seen k A q d u (c .allowed))), read-alike me m low (q .item) (row u)))
         (λ n1. choose k (q does write) _ _ _ _ (λ w. (refl, write-alike me m low (q .item) (q .value) (row (or-right (q does read) (q does write) w))))
         (λ n2. choose k (q does certify) _ _ _ _ (λ e. (refl, certify-alike me m low))
         (λ n3. choose k (q does commit) _ _ _ _ (λ e. (refl, commit-alike me m low))
@@ -186,7 +186,7 @@ module _ (k : ℕ) {h g : House} (L : Law h) (M : Law g) (A : Alike k h g) where
     unfolding performed
     performed-alike =
         let b = c .level in
-        rw (← vacancy-alike k L M A (q .level) b d, ← asker-alike k L M A q d b)
+        rw (← vacancy-alike k A (q .level) b d, ← asker-alike k A q d b)
         (choose k (q does begin) _ _ _ _
         (λ e. if-found k (vacancy (h .places) (q .level)) _ _ _ _ (λ me f. let w = vacancy-at (h .places) (q .level) me b f .within in (ap (λ t. replied q (Ticket t)) (A .tickets (q .level) b d), begin-alike (q .level) me b (w .place) d)) (refl, A))
         (λ e. if-found k (asker h q) _ _ _ _ (λ me f. let w = seek-at (h .places) (q .level) (q .ticket) me b f .within in served-alike me (w .place) (rw (w .level) d)) (refl, A)))
@@ -195,7 +195,7 @@ pub answered-alike : AnsweredAlike
 answered-alike k h g K J A q d =
     let L = kept-law K in
     let M = kept-law J in
-    let v = verdict-alike k L M A q d in
+    let v = verdict-alike k A L M q d in
     elim (same (verdict h q) 0) [
       | inl z ↦ rw (done-is h q z, done-is g q (sym v ∙ z)) (performed-alike k L M A q d (clear h q (passes h q z .0)))
       | inr n ↦ rw (refused-is h q _ refl n, refused-is g q _ (sym v) n) (refl, A)
