@@ -12,7 +12,7 @@ use Rattle.house.specs.declared.Request.{Request}
 use Rattle.house.specs.Cell.{has, cellAt}
 use Rattle.house.specs.House.{dominates, above, levelOf, itemAt, pendingAt, nextAt}
 use Rattle.house.specs.Rules.{begun, readBy, writtenBy, certifiedBy, left, committedBy, abortedBy}
-use Rattle.house.proofs.Tests.{is, clash, and-true}
+use Rattle.house.proofs.Tests.{is, clash, refuted, and-true}
 use Rattle.house.proofs.Levels.{dominates-on}
 use Rattle.house.proofs.Effects.{begun-next-other, read-cell-other, written-cell-other, written-pending-other, certified-cell}
 use Rattle.reach.proofs.Law.{held, held-neither, Law, Frame, same-level}
@@ -84,7 +84,7 @@ module _ {h : House} (L : Law h) where
 
   -- an item of another level I have not written
   unwritten : {me : ℕ} → me < 32 → (i : ℕ) → i < 64 → itemAt (h .items) i .level ≢ levelOf me → held (cellAt (h .cells) me i) ≡ false
-  unwritten {me} m i a n = elim (is (held (cellAt (h .cells) me i))) [ inl y ↦ absurd (n (L .cells me i m a .owned y)) | inr y ↦ y ]
+  unwritten {me} m i a n = refuted _ (λ y. n (L .cells me i m a .owned y))
 
   abort-spares : {me : ℕ} → me < 32 → Spares h (abortedBy h me) me
   unfolding left

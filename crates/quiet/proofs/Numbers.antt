@@ -20,7 +20,7 @@ use Rattle.house.specs.Cell.{has, cellAt, holds, anotherHolds, otherHolds, peer
 use Rattle.house.specs.House.{vacant, dominates, levelOf, itemAt, placeAt, freeAt, isActive, isCertified, hasTicket, seek, vacancy}
 use Rattle.house.specs.Checks.{foremost}
 use Rattle.house.specs.Rules.{begin, read, write, certify, commit, _does_, asker, usesItem, unknown, noItem, forbidden, stopped, untimely, wornOut, crowded, ticketless, waitsAt, conflict, delayed, refusals, verdict}
-use Rattle.house.proofs.Tests.{is, clash, or-false, or-right, not-is}
+use Rattle.house.proofs.Tests.{is, clash, refuted, or-false, or-right, not-is}
 use Rattle.house.proofs.Searches.{scan-same}
 use Rattle.house.proofs.Places.{seek-at}
 use Rattle.house.proofs.Levels.{dominates-on}
@@ -157,7 +157,7 @@ module _ (k : ℕ) {h g : House} (A : Alike k h g) where
     -- on an item of a level up to k nobody above k has a write or certify lock: those are at the item's level
     module _ (m : Mark) (writes : (c : ℕ) → has m c ≡ true → held c ≡ true) (i : ℕ) (a : i < 64) (d : dominates k (itemAt (h .items) i .level) ≡ true) where
       unheld : {f : House} → Law f → itemAt (h .items) i .level ≡ itemAt (f .items) i .level → (p : ℕ) → p < 32 → dominates k (levelOf p) ≡ false → has m (cellAt (f .cells) p i) ≡ false
-      unheld {f} N e p b n = elim (is (has m (cellAt (f .cells) p i))) [ inl y ↦ clash (rw (e, N .cells p i b a .owned (writes _ y)) at d) n | inr y ↦ y ]
+      unheld {f} N e p b n = refuted _ (λ y. clash (rw (e, N .cells p i b a .owned (writes _ y)) at d) n)
 
       held-alike : (p : ℕ) → p < 32 → has m (cellAt (h .cells) p i) ≡ has m (cellAt (g .cells) p i)
       held-alike p b =

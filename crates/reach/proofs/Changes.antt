@@ -15,7 +15,7 @@ use Rattle.house.specs.declared.Standing.the-variants.{Active}
 use Rattle.house.specs.Cell.{has, marked, unmarked, cellAt, holds}
 use Rattle.house.specs.House.{above, levelOf, itemAt, pendingAt, placeAt, nextAt, isFree}
 use Rattle.house.specs.Rules.{ticketAfter, begun, readBy, writtenBy, signalledCell, convertedCell, certifiedCell, certifiedBy, droppedPending, clearedCell, left, committedItem, committedBy, abortedBy}
-use Rattle.house.proofs.Tests.{is, same, clash, and-true, or-right}
+use Rattle.house.proofs.Tests.{is, same, clash, refuted, and-true, or-right}
 use Rattle.house.proofs.Levels.{above-intro}
 use Rattle.house.proofs.Cells.{alike, has-marked, has-unmarked, has-withMark}
 use Rattle.house.proofs.Effects.{begun-sizes, begun-place, begun-next, read-sizes, written-sizes, certified-sizes, certified-place, certified-cell, left-sizes, left-pending, left-place, left-cell, committed-sizes, committed-item, begun-place-other, begun-next-other, read-cell-other, written-cell-other, written-pending-other, certified-place-other, left-place-other, begun-fixed, read-fixed, written-fixed, certified-fixed, committed-fixed, aborted-fixed}
@@ -25,7 +25,7 @@ use Rattle.reach.proofs.Turns.{MayBegin, MayRead, MayWrite, MayCertify}
 
 -- an active transaction has no certify lock
 pub uncertified : {h : House} {me : ℕ} → Law h → me < 32 → placeAt (h .places) me .standing ≡ Active → (i : ℕ) → i < 64 → has Certify (cellAt (h .cells) me i) ≡ false
-uncertified {h} {me} L m active i a = elim (is (has Certify (cellAt (h .cells) me i))) [ inl e ↦ clash (L .cells me i m a .certifying e) (rw active) | inr e ↦ e ]
+uncertified {h} {me} L m active i a = refuted _ (λ e. clash (L .cells me i m a .certifying e) (rw active))
 
 -- BEGIN
 

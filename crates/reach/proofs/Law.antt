@@ -14,7 +14,7 @@ use Rattle.house.specs.declared.Standing.{Standing}
 use Rattle.house.specs.Cell.{has, cellAt}
 use Rattle.house.specs.House.{fixed, Sizes, dominates, above, levelOf, blank, itemAt, pendingAt, placeAt, isFree, isActive, isCertified}
 use Rattle.reach.specs.Kept.{Open, Issued}
-use Rattle.house.proofs.Tests.{is, same, clash, or-left, or-right, or-elim, or-false}
+use Rattle.house.proofs.Tests.{same, clash, refuted, or-left, or-right, or-elim, or-false}
 
 -- the cell says that its item is written: with the write lock or, once certified, with the certify lock
 unfoldable pub held : ℕ → Bool
@@ -98,11 +98,11 @@ clear-law z free clear =
 
 -- who has a lock is open
 pub locked-open : {h : House} → Law h → (m : Mark) (p i : ℕ) → p < 32 → i < 64 → has m (cellAt (h .cells) p i) ≡ true → Open h p
-locked-open {h} L m p i b a e = elim (is (isFree (placeAt (h .places) p .standing))) [ inl f ↦ clash e (clear-has m _ (L .cells p i b a .idle f)) | inr f ↦ f ]
+locked-open {h} L m p i b a e = refuted _ (λ f. clash e (clear-has m _ (L .cells p i b a .idle f)))
 
 -- what one has written, no other has
 pub unheld : {h : House} → Law h → (p q i : ℕ) → p < 32 → q < 32 → i < 64 → p ≢ q → held (cellAt (h .cells) q i) ≡ true → held (cellAt (h .cells) p i) ≡ false
-unheld {h} L p q i b c a n y = elim (is (held (cellAt (h .cells) p i))) [ inl x ↦ absurd (n (L .sole p q i b c a x y)) | inr x ↦ x ]
+unheld {h} L p q i b c a n y = refuted _ (λ x. n (L .sole p q i b c a x y))
 
 -- A CHANGE by the transaction at `me`. What an opening fixed stays, and is spoken of as it is in the house before
 

@@ -11,7 +11,7 @@ use borrow.Author.Tests.{eqb-true}
 use Rattle.house.specs.Search.{mapFrom}
 use Rattle.house.specs.Rules.{read, write, commit}
 use Rattle.house.specs.Run.{done, Name}
-use Rattle.house.proofs.Tests.{is, clash, and-true}
+use Rattle.house.proofs.Tests.{is, clash, refuted, and-true}
 use Rattle.serial.specs.Demand.{Event, wrote, name, doing, Row, Table, answer}
 
 abbrev pub Past : Type 0
@@ -76,7 +76,7 @@ doing-name n e x =
     (eqb-true _ _ (m .0), eqb-true _ _ (m .1))
 
 pub doing-other : (n : Name) (e : Event) → (e .0 .level ≡ n .0 → e .0 .ticket ≡ n .1 → ⊥) → doing n e ≡ false
-doing-other n e d = elim (is (doing n e)) [ inl x ↦ let k = doing-name n e x in absurd (d (k .0) (k .1)) | inr x ↦ x ]
+doing-other n e d = refuted _ (λ x. let k = doing-name n e x in d (k .0) (k .1))
 
 -- other operations, and refusals, are neither
 unfoldable pub quiet : Event → Bool

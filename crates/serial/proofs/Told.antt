@@ -20,7 +20,7 @@ use Rattle.house.specs.Search.{mapFrom}
 use Rattle.house.specs.Cell.{has, cellAt, holds, isSignalled}
 use Rattle.house.specs.House.{blank, itemAt, pendingAt}
 use Rattle.house.specs.Rules.{read, write, grown, begun, readBy, readAnswer, readFor, writtenBy, certifiedBy, left, committedItem, committedBy, abortedBy, replied}
-use Rattle.house.proofs.Tests.{is, same, clash}
+use Rattle.house.proofs.Tests.{is, same, clash, refuted}
 use Rattle.house.proofs.Holders.{unsignalled}
 use Rattle.house.proofs.Effects.{written-pending, written-pending-other}
 use Rattle.reach.proofs.Law.{held, held-write, held-certify, Law, Frame, clear-held, held-kept}
@@ -195,7 +195,7 @@ module _ {h : House} {me : ℕ} (L : Law h) (K : MayCommit h me) (own : Past) (k
   committed-shown i a =
       let x = itemAt (h .items) i in
       let c = cellAt (h .cells) me i in
-      let none : has Write c ≡ false = elim (is (has Write c)) [ inl w ↦ clash (L .cells me i (K .place) a .writing w) (rw (K .certified)) | inr w ↦ w ] in
+      let none : has Write c ≡ false = refuted _ (λ w. clash (L .cells me i (K .place) a .writing w) (rw (K .certified))) in
       elim (is (has Certify c)) [
         | inl y ↦ simp (y, lt-ltb (x .version) 4294967295 (L .cells me i (K .place) a .room (held-certify _ y))) (sym (k .writes i a (row x) ∙ rw (none, y)))
         | inr y ↦ rw y (sym (k .writes i a (row x) ∙ rw (none, y)))
