@@ -3,8 +3,9 @@ BEGIN {
     FS = ","
     words["plain"] = "plain C"; words["steps"] = "plain C, by value"; words["tuned"] = "tuned C"
     words["in_place"] = "proved turn_in_place"; words["turn"] = "proved turn, by value"; words["bdb"] = "Berkeley DB's lock table"
-    split("refused done pressed", mixes, " ")
+    kinds = split("refused done pressed lessons", mixes, " ")
     heads["refused"] = "Refused-heavy traffic"; heads["done"] = "Done-heavy traffic"; heads["pressed"] = "Pressed traffic (places nearly full)"
+    heads["lessons"] = "Long lessons (all places held by old tickets)"
 }
 $1 == "meta" { value = $5; for (k = 6; k <= NF; k++) value = value "," $k; meta[$3] = value }
 $1 == "time" {
@@ -18,7 +19,7 @@ END {
     for (k in time) if (time[k] > most) most = time[k]
     left = 190; width = 720; bar = 20; room = width - left - 70
     group = 34 + n * (bar + 6)
-    height = 64 + 3 * group + 26
+    height = 64 + kinds * group + 26
     printf "<svg xmlns=\"http://www.w3.org/2000/svg\" viewBox=\"0 0 %d %d\" width=\"%d\" height=\"%d\" role=\"img\" aria-label=\"Nanoseconds per request of each desk, less is better\">\n", width, height, width, height
     print "<style>"
     print "text { font: 13px sans-serif; fill: #1f2328 } .title { font-size: 16px; font-weight: bold } .head { font-weight: bold } .note { font-size: 11px; fill: #59636e }"
@@ -29,7 +30,7 @@ END {
     text("title", 16, 28, "start", "Nanoseconds per request (less is better)")
     text("note", 16, 47, "start", meta["date"] "; " meta["machine"] (meta["note"] != "" ? "; " meta["note"] ", not a quiet machine" : ""))
     y = 64
-    for (m = 1; m <= 3; m++) {
+    for (m = 1; m <= kinds; m++) {
         text("head", 16, y + 18, "start", heads[mixes[m]])
         y += 28
         printf "<line class=\"axis\" x1=\"%d\" y1=\"%d\" x2=\"%d\" y2=\"%d\"/>\n", left, y, left, y + n * (bar + 6) - 2

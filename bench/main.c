@@ -247,6 +247,7 @@ static int act_on_maps(int words, char **word) { return (void)words, (void)word,
 
 static int usage(void) {
     fprintf(stderr, "usage: bench desks\n"
+                    "       bench mixes\n"
                     "       bench time REQUESTS ROUNDS\n"
                     "       bench growth MOST ROUNDS\n"
                     "       bench make MIX REQUESTS\n"
@@ -263,6 +264,8 @@ static int act(int words, char **word) {
     const char *mode = words > 0 ? word[0] : "";
     if (strcmp(mode, "desks") == 0 && words == 1) {
         for (size_t d = 0; d < desk_count; d++) puts(desks[d].name);
+    } else if (strcmp(mode, "mixes") == 0 && words == 1) {
+        for (int mix = 0; mix < MIXES; mix++) puts(mix_names[mix]);
     } else if (strcmp(mode, "time") == 0 && words == 3) {
         for (int mix = 0; mix < MIXES; mix++)
             time_mix((enum mix)mix, number(word[1]), (int)number(word[2]));

@@ -3,8 +3,8 @@ BEGIN {
     FS = ","
     words["plain"] = "plain C"; words["steps"] = "plain C, by value"; words["tuned"] = "tuned C"
     words["in_place"] = "**proved `turn_in_place`**"; words["turn"] = "**proved `turn`**, by value"; words["bdb"] = "Berkeley DB's lock table"
-    split("refused done pressed", mixes, " ")
-    heads["refused"] = "refused-heavy"; heads["done"] = "done-heavy"; heads["pressed"] = "pressed"
+    kinds = split("refused done pressed lessons", mixes, " ")
+    heads["refused"] = "refused-heavy"; heads["done"] = "done-heavy"; heads["pressed"] = "pressed"; heads["lessons"] = "long lessons"
     split("begin read write certify commit abort ask", operations, " ")
     meaning[0] = "done"; meaning[1] = "delayed"; meaning[2] = "signalled"; meaning[3] = "no such operation"
     meaning[4] = "no such level"; meaning[5] = "an unused field is not zero"; meaning[6] = "no such transaction"
@@ -23,7 +23,7 @@ $1 == "mix" { total[$2] += $5; of_number[$2, $4] += $5; of_both[$2, $3, $4] += $
 
 function row(first, cells) { print "| " first " |" cells }
 function head(first,    m, line, rule) {
-    for (m = 1; m <= 3; m++) { line = line " " heads[mixes[m]] " |"; rule = rule "---|" }
+    for (m = 1; m <= kinds; m++) { line = line " " heads[mixes[m]] " |"; rule = rule "---|" }
     row(first, line); print "|---|" rule
 }
 function shared(count, mix) { return count ? sprintf(" %.1f |", 100 * count / total[mix]) : " |" }
@@ -32,7 +32,7 @@ function figures(what, figure,    d, m, line, mix, desk) {
     for (d = 1; d <= n; d++) {
         desk = desks[d]; line = ""
         if (!((mixes[1], desk) in figure)) continue
-        for (m = 1; m <= 3; m++) {
+        for (m = 1; m <= kinds; m++) {
             mix = mixes[m]
             line = line sprintf(" %.1f (%.2f; %.2f) |", figure[mix, desk], figure[mix, desk] / figure[mix, "plain"], figure[mix, desk] / figure[mix, "tuned"])
         }
@@ -74,17 +74,17 @@ END {
     head("the mix met: reply, share in percent")
     for (k = 0; k <= 15; k++) {
         line = ""; met = 0
-        for (m = 1; m <= 3; m++) { met += of_number[mixes[m], k]; line = line shared(of_number[mixes[m], k], mixes[m]) }
+        for (m = 1; m <= kinds; m++) { met += of_number[mixes[m], k]; line = line shared(of_number[mixes[m], k], mixes[m]) }
         if (met) row(k " " meaning[k], line)
         for (o = 0; met && k < 2 && o < 7; o++) {
             line = ""; met_here = 0
-            for (m = 1; m <= 3; m++) { c = of_both[mixes[m], o, k]; met_here += c; line = line shared(c, mixes[m]) }
+            for (m = 1; m <= kinds; m++) { c = of_both[mixes[m], o, k]; met_here += c; line = line shared(c, mixes[m]) }
             if (met_here) row("&emsp;" operations[o + 1], line)
         }
     }
     if ("done" in calls) {
         line = ""
-        for (m = 1; m <= 3; m++) line = line sprintf(" %.2f |", calls[mixes[m]])
+        for (m = 1; m <= kinds; m++) line = line sprintf(" %.2f |", calls[mixes[m]])
         row("calls of Berkeley DB per request", line)
     }
     print ""

@@ -2,7 +2,7 @@
 
 #include "plain.h"
 
-const char *const mix_names[MIXES] = {"refused", "done", "pressed"};
+const char *const mix_names[MIXES] = {"refused", "done", "pressed", "lessons"};
 
 _Static_assert(ITEMS % 4 == 0 && ITEMS > 0 && ITEMS <= 64, "items of the traffic");
 #define FOUR 0, 1, 2, 3
@@ -31,6 +31,9 @@ static const struct recipe recipes[MIXES] = {
                     .weights = {0, 530, 330, 130, 0, 40, 40}},
     [PRESSED] = {.begins = 12, .misshapen = 15, .crowd = 8, .heed = 200, .own_level = 150,
                  .weights = {0, 500, 320, 80, 0, 25, 15}},
+    // About three of a thousand requests end a transaction: it stays for some 9,000.
+    [LONG_LESSONS] = {.stale = 75, .begins = 75, .misshapen = 15, .crowd = 8, .heed = 200,
+                      .own_level = 300, .weights = {0, 780, 100, 3, 0, 1, 116}},
 };
 
 struct maker {
