@@ -4,18 +4,22 @@ use Prim.Native.Nat.{ℕ, _+_, _*_, _<_}
 use native.Mathlib.Omega.{arith}
 use mathlib.Core.Path.{_≡_, sym, _∙_}
 use mathlib.Core.Bool.{Bool, false, _||_}
+use mathlib.Core.List.{List}
 use lib.Dec.{leb}
 use mir.Syntax.{w16, w64}
 use mir.Val.{Fits}
 use Rattle.house.proofs.Checks.{there, level-there}
 use Rattle.house.proofs.Searches.{find-below}
+use Rattle.house.proofs.Places.{seek-at, vacancy-at}
 use Rattle.house.specs.declared.Answer.{Answer}
 use Rattle.house.specs.declared.Answer.the-variants.{Signals}
 use Rattle.house.specs.declared.Found.{Found}
 use Rattle.house.specs.declared.Found.the-variants.{At}
+use Rattle.house.specs.declared.Place.{Place}
 use Rattle.house.specs.declared.Request.{Request}
 use Rattle.house.specs.Rules.{noLevel}
 use Rattle.house.specs.Search.{find}
+use Rattle.house.specs.House.{seek, vacancy}
 use Rattle.ruling.specs.declared.Change.{Change}
 use Rattle.ruling.specs.declared.Ruling.{Ruling}
 use Rattle.ruling.specs.Ruling.{grant}
@@ -37,6 +41,12 @@ low b q e n = level-there q (sym e ∙ n)
 
 pub near : (a : Found) (f : ℕ → Bool) (n k : ℕ) → a ≡ find f 0 n → a ≡ At k → k < n
 near a f n k e p = omega (arith, find-below f 0 n k (sym e ∙ p))
+
+pub sought : (a : Found) (eight : List Place) (t k : ℕ) → a ≡ seek eight 0 t → a ≡ At k → k < 8
+sought a eight t k e p = let w = seek-at eight 0 t k (omega arith) (sym e ∙ p) .within .level in omega arith
+
+pub freed : (a : Found) (eight : List Place) (k : ℕ) → a ≡ vacancy eight 0 → a ≡ At k → k < 8
+freed a eight k e p = let w = vacancy-at eight 0 k (omega arith) (sym e ∙ p) .within .level in omega arith
 
 pub placed : (l k : ℕ) → l < 4 → k < 8 → l * 8 + k < 32
 placed l k b d = omega arith

@@ -8,8 +8,7 @@ ghost use mathlib.Core.Path.{_≡_};
 ghost use mathlib.Core.Bool.{_||_, not};
 ghost use Prim.Native.Nat.{_+_, _*_, _<_};
 ghost use lib.Dec.{leb};
-ghost use Rattle.house.specs.Search.{find};
-ghost use Rattle.house.specs.House.{dominates, freeAt};
+ghost use Rattle.house.specs.House.{dominates, vacancy};
 ghost use Rattle.house.specs.Rules.{noOperation, noLevel, unusedSet, readAnswer, askAnswer};
 ghost use Rattle.ruling.specs.Ruling.{refusal, grant};
 ghost use Rattle.ruling.specs.Judged.{Judged, beginRuled, readRuled, writeRuled, certifyRuled, commitRuled, knownRuled};
@@ -108,7 +107,7 @@ fn answer_ask(cells: &[u8; 2048], me: usize) -> Answer
 
 fn judge_begin(eight: [Place; 8], ticket: u32, level: usize) -> Ruling
     requires { ⌜ level < 4 ⌝ }
-    ensures { λ r. ⌜ r ≡ beginRuled (find (freeAt eight) 0 8) ticket level ⌝ }
+    ensures { λ r. ⌜ r ≡ beginRuled (vacancy eight 0) ticket level ⌝ }
 {
     let Found::At(k) = lowest_free(eight) else {
         return refuse(11);

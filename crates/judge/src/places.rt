@@ -1,10 +1,9 @@
-// The searches over the eight places of one level.
+// The searches over the eight places of one level, which are looked at as if they were those of level 0.
 
 ghost use mathlib.Core.Path.{_≡_};
 ghost use mathlib.Core.Logic.{_≢_};
 ghost use Prim.Native.Nat.{_<_};
-ghost use Rattle.house.specs.Search.{find};
-ghost use Rattle.house.specs.House.{isFree, isActive, isCertified, freeAt, hasTicket};
+ghost use Rattle.house.specs.House.{isFree, isActive, isCertified, freeAt, hasTicket, seek, vacancy};
 use house::Found;
 use house::Place;
 use house::Standing;
@@ -58,7 +57,7 @@ fn has_ticket(eight: [Place; 8], ticket: u32, k: usize) -> bool
 
 // The search stops at the place found. Ticket 0 names nobody: it is told once, before the search, not at each place.
 pub(crate) fn lookup(eight: [Place; 8], ticket: u32) -> Found
-    ensures { λ r. ⌜ r ≡ find (hasTicket eight ticket) 0 8 ⌝ }
+    ensures { λ r. ⌜ r ≡ seek eight 0 ticket ⌝ }
 {
     if ticket == 0 {
         return Found::Nobody;
@@ -77,7 +76,7 @@ pub(crate) fn lookup(eight: [Place; 8], ticket: u32) -> Found
 }
 
 pub(crate) fn lowest_free(eight: [Place; 8]) -> Found
-    ensures { λ r. ⌜ r ≡ find (freeAt eight) 0 8 ⌝ }
+    ensures { λ r. ⌜ r ≡ vacancy eight 0 ⌝ }
 {
     for k in 0..8 {
         if free_at(eight, k) {

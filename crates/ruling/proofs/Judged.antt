@@ -25,7 +25,7 @@ use Rattle.house.proofs.Unfolding.{tests}
 use Rattle.house.proofs.Operations.{operation-of, is-begin, is-read, is-write, is-certify, is-commit, is-abort, is-ask}
 use Rattle.house.proofs.Tests.{is, same, and-true, or-right}
 use Rattle.house.proofs.Checks.{numbered, level-there}
-use Rattle.house.proofs.Searches.{find-at}
+use Rattle.house.proofs.Places.{seek-at}
 use Rattle.house.specs.declared.Answer.the-variants.{Ticket}
 use Rattle.ruling.specs.declared.Case.{Case}
 use Rattle.ruling.specs.declared.Change.the-variants.{Begin}
@@ -77,8 +77,8 @@ requestChecks q = (3, noOperation q) ∷ (4, noLevel q) ∷ (5, unusedSet q) ∷
 
 abbrev operationRuled : View → List ℕ → Request → Ruling
 operationRuled v cells q =
-    let begin′ = beginRuled (find (freeAt (v .eight)) 0 8) (v .ticket) (q .level) in
-    let others = ifFound (find (hasTicket (v .eight) (q .ticket)) 0 8) (λ k. knownRuled (found v q k) cells) (refusal 6) in
+    let begin′ = beginRuled (vacancy (v .eight) 0) (v .ticket) (q .level) in
+    let others = ifFound (seek (v .eight) 0 (q .ticket)) (λ k. knownRuled (found v q k) cells) (refusal 6) in
     cond (q does begin) begin′ others
 
 unfoldable pub shownRuled : View → List ℕ → Request → Ruling
@@ -155,24 +155,24 @@ module _ (v : View) (cells : List ℕ) (q : Request) (h : House) (k : Shown h q 
     abbrev level : q .level < 4
     level = level-there q low
 
-    seek-eight : asker h q ≡ moved (q .level * 8) (find (hasTicket (v .eight) (q .ticket)) 0 8)
+    seek-eight : asker h q ≡ moved (q .level * 8) (seek (v .eight) 0 (q .ticket))
     unfolding seek hasTicket freeAt
     seek-eight = find-moved _ _ (q .level * 8) 8 (λ n b. rw (k .places level n b))
 
-    vacancy-eight : vacancy (h .places) (q .level) ≡ moved (q .level * 8) (find (freeAt (v .eight)) 0 8)
+    vacancy-eight : vacancy (h .places) (q .level) ≡ moved (q .level * 8) (vacancy (v .eight) 0)
     unfolding vacancy freeAt
     vacancy-eight = find-moved _ _ (q .level * 8) 8 (λ n b. rw (k .places level n b))
 
-    others-shown : q .operation ≢ begin → (who : Found) → find (hasTicket (v .eight) (q .ticket)) 0 8 ≡ who → rest h q ≡ ifFound who (λ n. knownRuled (found v q n) cells) (refusal 6)
+    others-shown : q .operation ≢ begin → (who : Found) → seek (v .eight) 0 (q .ticket) ≡ who → rest h q ≡ ifFound who (λ n. knownRuled (found v q n) cells) (refusal 6)
     others-shown o Nobody e = unknown-ruled h q o (seek-eight ∙ rw e)
     others-shown o (At n) e =
-        let b = find-at (hasTicket (v .eight) (q .ticket)) 0 8 n e in
+        let b = seek-at (v .eight) 0 (q .ticket) n (omega arith) e .within .level in
         let me = q .level * 8 + n in
         known-ruled h q me (seek-eight ∙ rw e) known o ∙ case-same q me (k .count) (k .row) (k .pending) (k .places level n (omega arith)) (k .cells)
 
     rest-shown : rest h q ≡ operationRuled v cells q
     rest-shown = elim (same (q .operation) begin) [
-      | inl o ↦ rw (eq-eqb _ _ o) (begin-ruled h q o (find (freeAt (v .eight)) 0 8) vacancy-eight ∙ rw (k .ticket level))
+      | inl o ↦ rw (eq-eqb _ _ o) (begin-ruled h q o (vacancy (v .eight) 0) vacancy-eight ∙ rw (k .ticket level))
       | inr o ↦ rw (ne-eqb _ _ o) (others-shown o _ refl)
     ]
 

@@ -1,9 +1,9 @@
 -- The ruling is `shownRuled`, which is `Judged` (`judged`); each return is `search followed`, which goes through it as the code went through its
--- tests. That the place found is there: `low`, `near`, `placed`.
+-- tests. That the place found is there: `low`, `sought`, `placed`.
 use borrow.Author.Needs.{needs}
 use Rattle.house.proofs.Branches.{followed}
 use Rattle.ruling.proofs.Judged.{shownRuled, judged}
-use Rattle.judge.proofs.Laws.{low, near, placed, place-fits, eighth-fits}
+use Rattle.judge.proofs.Laws.{low, sought, placed, place-fits, eighth-fits}
 use Rattle.judge.proofs.judge.Statement.{statement}
 use Rattle.judge.proofs.judge.Tie as tie
 
@@ -64,19 +64,19 @@ unfolding shownRuled
 returns-5 c = search (followed, judged) depth 20
 
 mul-seat : tie.Need-mul-seat
-mul-seat c = search (near, eighth-fits)
+mul-seat c = search (sought, eighth-fits)
 
 array-copy-out-seat : tie.Need-array-copy-out-seat
-array-copy-out-seat c = search (needs, near)
+array-copy-out-seat c = search (needs, sought)
 
 mul-first : tie.Need-mul-first
 mul-first c = search (needs, low)
 
 add-me : tie.Need-add-me
-add-me c = search (low, near, place-fits)
+add-me c = search (low, sought, place-fits)
 
 judge-known-requires : tie.Need-judge-known-requires
-judge-known-requires c κs = search (needs, low, near, placed)
+judge-known-requires c κs = search (needs, low, sought, placed)
 
 returns-6 : tie.Need-returns-6
 unfolding shownRuled

@@ -1,7 +1,7 @@
 use borrow.Author.Needs.{needs}
 use Rattle.house.proofs.Branches.{followed}
 use Rattle.ruling.specs.Judged.{beginRuled}
-use Rattle.judge.proofs.Laws.{near, place-fits}
+use Rattle.judge.proofs.Laws.{freed, place-fits}
 use Rattle.judge.proofs.judge_begin.Statement.{statement}
 use Rattle.judge.proofs.judge_begin.Tie as tie
 
@@ -32,7 +32,7 @@ mul-first : tie.Need-mul-first
 mul-first c = search needs
 
 add-me : tie.Need-add-me
-add-me c = search (near, place-fits)
+add-me c = search (freed, place-fits)
 
 allow-requires : tie.Need-allow-requires
 allow-requires c κs = search needs

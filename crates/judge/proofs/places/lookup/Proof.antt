@@ -7,7 +7,7 @@ use mathlib.Core.Logic.{_≢_}
 use borrow.Author.Needs.{needs}
 use Rattle.house.proofs.Places.{zero-nowhere}
 use Rattle.house.proofs.Searches.{searched}
-use Rattle.house.specs.House.{hasTicket}
+use Rattle.house.specs.House.{hasTicket, seek}
 use Rattle.house.specs.Search.{find}
 use Rattle.judge.proofs.places.lookup.Statement.{statement}
 use Rattle.judge.proofs.places.lookup.Tie as tie
@@ -25,12 +25,14 @@ abbrev μ-loop : tie.MeasureT-loop
 μ-loop eight ticket k₀ k = 8 - k
 
 returns : tie.Need-returns Inv-loop μ-loop
+unfolding seek
 returns c = sym (rw (c .if1 .taken) (zero-nowhere _ 0 8))
 
 loop-holds : tie.Need-loop-holds Inv-loop μ-loop
 loop-holds c = (omega arith, refl)
 
 returns-2 : tie.Need-returns-2 Inv-loop μ-loop
+unfolding seek
 returns-2 c = search (searched, at-end)
 
 has-ticket-requires : tie.Need-has-ticket-requires Inv-loop μ-loop
@@ -46,6 +48,7 @@ loop-again : tie.Need-loop-again Inv-loop μ-loop
 loop-again c = (omega arith, search (searched, not-yet))
 
 returns-3 : tie.Need-returns-3 Inv-loop μ-loop
+unfolding seek
 returns-3 c = search (searched, not-yet)
 
 pub lookup-spec : {M : Type 1} → statement M

@@ -2,7 +2,7 @@ use Prim.Native.Nat.{_-_}
 use mathlib.Core.Path.{_≡_, refl}
 use borrow.Author.Needs.{needs}
 use Rattle.house.proofs.Searches.{searched}
-use Rattle.house.specs.House.{freeAt}
+use Rattle.house.specs.House.{freeAt, vacancy}
 use Rattle.house.specs.Search.{find}
 use Rattle.judge.proofs.places.lowest_free.Statement.{statement}
 use Rattle.judge.proofs.places.lowest_free.Tie as tie
@@ -20,6 +20,7 @@ free-at-requires : tie.Need-free-at-requires Inv-loop μ-loop
 free-at-requires c κs = search needs
 
 returns : tie.Need-returns Inv-loop μ-loop
+unfolding vacancy
 returns c = search searched
 
 add-k : tie.Need-add-k Inv-loop μ-loop
@@ -32,6 +33,7 @@ loop-again : tie.Need-loop-again Inv-loop μ-loop
 loop-again c = search searched
 
 returns-2 : tie.Need-returns-2 Inv-loop μ-loop
+unfolding vacancy
 returns-2 c = search searched
 
 pub lowest-free-spec : {M : Type 1} → statement M
