@@ -1,6 +1,6 @@
 //! Which replies the generated inputs meet: all that the rules let a run reach must be there.
 
-use crate::desk::{Desk, Place, Refusal, Standing};
+use crate::desk::{Desk, Place, Refusal, Standing, PLACES_PER_LEVEL};
 use crate::generator;
 use crate::progress::each_seed;
 use crate::run::Run;
@@ -56,6 +56,9 @@ struct Counts {
     replies: [[u64; NUMBERS.len()]; ROWS],
     /// By operation and standing of the transaction that the request names.
     standings: [[u64; STANDINGS.len()]; ROWS],
+    /// By how many places a search that begins at the ticket modulo 8 passes before the transaction
+    /// that the request names.
+    passed: [u64; PLACES_PER_LEVEL],
     /// Writes of 0, by what the same write of 1 is answered: 15 comes behind some of these numbers
     /// and before the others.
     blank: [u64; NUMBERS.len()],
@@ -84,18 +87,20 @@ impl Counts {
         }
         while let Some((bytes, rest)) = requests.split_first_chunk::<REQUEST_BYTES>() {
             let request = Request::from_bytes(bytes);
-            self.note_standing(run.desk(), &request);
+            self.note_named(run.desk(), &request);
             self.note_blank(run.desk(), &request);
             self.note_reply(&run.feed(bytes));
             requests = rest;
         }
     }
 
-    fn note_standing(&mut self, desk: Option<&Desk>, request: &Request) {
+    fn note_named(&mut self, desk: Option<&Desk>, request: &Request) {
         let Some(desk) = desk else { return };
         if let Ok(place) = desk.find(request.level, request.ticket) {
             let row = usize::from(request.operation).min(ROWS - 1);
             self.standings[row][standing(&desk.places[place])] += 1;
+            let start = request.ticket as usize % PLACES_PER_LEVEL;
+            self.passed[(place + PLACES_PER_LEVEL - start) % PLACES_PER_LEVEL] += 1;
         }
     }
 
@@ -140,6 +145,9 @@ impl Counts {
         }
         for (number, _) in self.blank_writes().filter(|(_, count)| *count == 0) {
             faults.push(format!("no write of 0 came that would be answered {number} without it"));
+        }
+        for (passed, _) in self.passed.iter().enumerate().filter(|(_, count)| **count == 0) {
+            faults.push(format!("no search from the ticket modulo 8 had to pass {passed} places"));
         }
         let openings = [
             ("opened", self.opened),
@@ -190,6 +198,11 @@ impl Counts {
         let blank: Vec<String> =
             self.blank_writes().map(|(number, count)| format!("{number} {count}")).collect();
         writeln!(out, "\nwrites of 0 by the answer to the same write of 1: {}", blank.join("; "))?;
+        writeln!(
+            out,
+            "requests by the places that their search passes, 0 to 7: {}",
+            self.passed.map(|count| count.to_string()).join("; ")
+        )?;
         writeln!(out, "\nrequests by operation and standing of the transaction named")?;
         for operation in Operation::ALL.into_iter().filter(|operation| operation.uses_ticket()) {
             let counts = self.standings[usize::from(operation.number())];

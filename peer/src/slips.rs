@@ -2,11 +2,11 @@
 //! on purpose: a desk that behaves but for one slip. The checks must find each of them, or they are
 //! not worth running.
 
-use crate::desk::{Desk, Place, Refusal, Standing, LEVELS};
+use crate::desk::{Desk, Place, Refusal, Standing, LEVELS, PLACES_PER_LEVEL};
 use crate::run::Answer;
 use crate::wire::{Operation, Reply, Request};
 
-pub const SLIPS: [(&str, Answer); 11] = [
+pub const SLIPS: [(&str, Answer); 12] = [
     ("tells the certifier how many readers were signalled", tells_count),
     ("delays a certify for a reader above", delays_for_reader_above),
     ("counts a transaction's own read lock against its certify", counts_own_read),
@@ -18,6 +18,7 @@ pub const SLIPS: [(&str, Answer); 11] = [
     ("tells of a blank sheet only where nothing else is wrong", tells_blank_late),
     ("counts the tickets of all levels with one counter", counts_tickets_together),
     ("begins while any of the 32 places is free", begins_in_any_place),
+    ("looks a ticket up at seven places of its level", goes_round_seven),
 ];
 
 fn delayed(request: &Request) -> Reply {
@@ -163,5 +164,18 @@ fn begins_in_any_place(desk: &mut Desk, request: &Request) -> Reply {
             desk.answer(request)
         }
         None => reply,
+    }
+}
+
+/// The search begins at the ticket modulo 8 and goes round, but not to the last place.
+fn goes_round_seven(desk: &mut Desk, request: &Request) -> Reply {
+    let last = (request.ticket as usize + PLACES_PER_LEVEL - 1) % PLACES_PER_LEVEL;
+    match desk.find(request.level, request.ticket) {
+        Ok(me) if me % PLACES_PER_LEVEL == last => {
+            let mut unseen = desk.clone();
+            unseen.places[me].standing = Standing::Free;
+            unseen.answer(request)
+        }
+        _ => desk.answer(request),
     }
 }

@@ -12,7 +12,7 @@ use Rattle.house.specs.declared.Item.{Item}
 use Rattle.house.specs.declared.Place.{Place}
 use Rattle.house.specs.declared.Standing.{Standing}
 use Rattle.house.specs.declared.Standing.the-variants.{Free, Active, Certified}
-use Rattle.house.specs.Search.{find}
+use Rattle.house.specs.Search.{find, findRound}
 
 -- "A larger number dominates a smaller one." A level dominates itself as well
 unfoldable pub dominates : ℕ → ℕ → Bool
@@ -99,9 +99,10 @@ freeAt places p = isFree (placeAt places p .standing)
 unfoldable pub hasTicket : List Place → ℕ → ℕ → Bool
 hasTicket places t p = not (freeAt places p) && eqb (placeAt places p .ticket) t && not (eqb t 0)
 
--- "To look a ticket up, the search goes over the eight places of one level and stops at the place found."
+-- "To look a ticket up, the search goes over the eight places of one level and stops at the place found." It begins "at the place
+-- numbered by the ticket modulo 8", and goes "round" (CR 4)
 unfoldable pub seek : List Place → ℕ → ℕ → Found
-seek places l t = find (hasTicket places t) (l * 8) 8
+seek places l t = findRound (hasTicket places t) (l * 8) 8 t
 
 -- "the lowest free place of the level"
 unfoldable pub vacancy : List Place → ℕ → Found

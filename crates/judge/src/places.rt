@@ -1,9 +1,9 @@
 // The searches over the eight places of one level, which are looked at as if they were those of level 0.
 
 ghost use mathlib.Core.Path.{_≡_};
-ghost use mathlib.Core.Logic.{_≢_};
+ghost use mathlib.Core.Bool.{not};
 ghost use Prim.Native.Nat.{_<_};
-ghost use Rattle.house.specs.House.{isFree, isActive, isCertified, freeAt, hasTicket, seek, vacancy};
+ghost use Rattle.house.specs.House.{isFree, isActive, isCertified, freeAt, seek, vacancy};
 use house::Found;
 use house::Place;
 use house::Standing;
@@ -47,28 +47,32 @@ fn free_at(eight: [Place; 8], k: usize) -> bool
     is_free(standing)
 }
 
-fn has_ticket(eight: [Place; 8], ticket: u32, k: usize) -> bool
-    requires { ⌜ (k < 8) × (ticket ≢ 0) ⌝ }
-    ensures { λ r. ⌜ r ≡ hasTicket eight ticket k ⌝ }
+fn is_open(seat: Place) -> bool
+    ensures { λ r. ⌜ r ≡ not (isFree (seat .standing)) ⌝ }
 {
-    let place = eight[k];
-    !free_at(eight, k) & (place.ticket == ticket)
+    let standing = seat.standing;
+    !is_free(standing)
 }
 
-// The search stops at the place found. Ticket 0 names nobody: it is told once, before the search, not at each place.
+// The search goes round from the ticket modulo 8 and stops at the place found. Ticket 0 names nobody: it is told once, before the
+// search, not at each place. A place is mostly passed by its ticket, so that is read by itself.
 pub(crate) fn lookup(eight: [Place; 8], ticket: u32) -> Found
     ensures { λ r. ⌜ r ≡ seek eight 0 ticket ⌝ }
 {
     if ticket == 0 {
         return Found::Nobody;
     }
+    let start = (ticket % 8) as usize;
     let mut k = 0;
     let place = loop {
         if k == 8 {
             return Found::Nobody;
         }
-        if has_ticket(eight, ticket, k) {
-            break k;
+        let next = (start + k) % 8;
+        let held = eight[next].ticket;
+        let seat = eight[next];
+        if (held == ticket) & is_open(seat) {
+            break next;
         }
         k += 1;
     };

@@ -21,7 +21,7 @@ use Rattle.house.specs.House.{vacant, dominates, levelOf, itemAt, placeAt, free
 use Rattle.house.specs.Checks.{foremost}
 use Rattle.house.specs.Rules.{begin, read, write, certify, commit, _does_, asker, usesItem, unknown, noItem, forbidden, stopped, untimely, wornOut, crowded, ticketless, waitsAt, conflict, delayed, refusals, verdict}
 use Rattle.house.proofs.Tests.{is, clash, refuted, or-false, or-right, not-is}
-use Rattle.house.proofs.Searches.{scan-same}
+use Rattle.house.proofs.Searches.{scan-same, round-same}
 use Rattle.house.proofs.Places.{seek-at}
 use Rattle.house.proofs.Levels.{dominates-on}
 use Rattle.house.proofs.Checks.{Clear, clear, level-there, item-there, verdict-is}
@@ -46,7 +46,7 @@ module _ (k : ℕ) {h g : House} (A : Alike k h g) where
 
     seek-alike : (t : ℕ) → seek (h .places) l t ≡ seek (g .places) l t
     unfolding seek hasTicket freeAt
-    seek-alike t = scan-same _ _ _ _ (l * 8) 8 (λ p x y. rw (place-alike p (omega arith)))
+    seek-alike t = round-same (hasTicket (h .places) t) (hasTicket (g .places) t) (l * 8) 8 t (λ p x y. rw (place-alike p (omega arith)))
 
     pub vacancy-alike : vacancy (h .places) l ≡ vacancy (g .places) l
     unfolding vacancy freeAt

@@ -107,7 +107,7 @@ stranger-nobody h q l s (At p) e = absurd (stranger-elsewhere h q s p (found (le
 
 zero-nobody : (h : House) (q : Request) → q .ticket ≡ 0 → asker h q ≡ Nobody
 unfolding seek
-zero-nobody h q z = rw z (zero-nowhere (h .places) (q .level * 8) 8)
+zero-nobody h q z = rw z (zero-nowhere (h .places) _ _ _)
 
 pub stranger-refused : StrangerRefused
 stranger-refused h q n s = turned-down h q n (stranger-elsewhere h q s)

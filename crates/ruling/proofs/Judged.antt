@@ -2,7 +2,7 @@
 -- Assumes nothing.
 use Prim.Native.Nat.{ℕ, zero, suc, _+_, _*_, _%_, _<_}
 use native.Mathlib.Omega.{arith}
-use native.Mathlib.Nat.{add-zero, mod-eq-of-lt}
+use native.Mathlib.Nat.{add-zero, zero-add, mod-lt, mod-eq-of-lt}
 use mathlib.Core.Path.{_≡_, refl, sym, ap, _∙_}
 use mathlib.Core.Logic.{_≢_, inl, inr}
 use mathlib.Core.Bool.{Bool, true, false, cond, _||_, not}
@@ -18,13 +18,14 @@ use Rattle.house.specs.declared.Item.{Item}
 use Rattle.house.specs.declared.Place.{Place}
 use Rattle.house.specs.declared.Request.{Request}
 use Rattle.house.specs.Checks.{foremost}
-use Rattle.house.specs.Search.{scan, find, ifFound, nobody}
+use Rattle.house.specs.Search.{scan, find, onRound, findRound, ifFound, nobody}
 use Rattle.house.specs.House.{blank, vacant, itemAt, pendingAt, placeAt, nextAt, freeAt, hasTicket, seek, vacancy}
 use Rattle.house.specs.Rules.{begin, _does_, asker, noOperation, noLevel, unusedSet, conflict, checks, verdict}
 use Rattle.house.proofs.Unfolding.{tests}
 use Rattle.house.proofs.Operations.{operation-of, is-begin, is-read, is-write, is-certify, is-commit, is-abort, is-ask}
 use Rattle.house.proofs.Tests.{is, same, and-true, or-right}
 use Rattle.house.proofs.Checks.{numbered, level-there}
+use Rattle.house.proofs.Searches.{scan-same, scan-first}
 use Rattle.house.proofs.Places.{seek-at}
 use Rattle.house.specs.declared.Answer.the-variants.{Ticket}
 use Rattle.ruling.specs.declared.Case.{Case}
@@ -65,6 +66,18 @@ from-j f g b j (suc n) e =
 
 find-moved : (f g : ℕ → Bool) (b n : ℕ) → ((k : ℕ) → k < n → f (b + k) ≡ g k) → find f b n ≡ moved b (find g 0 n)
 find-moved f g b n e = rw (add-zero b) at (from-j f g b 0 n (λ k h. e k (omega arith)))
+
+-- and so is a round
+round-moved : (f g : ℕ → Bool) (b n start : ℕ) → ((k : ℕ) → k < n → f (b + k) ≡ g k) → findRound f b n start ≡ moved b (findRound g 0 n start)
+round-moved f g b n start e =
+    let all = onRound b n start in
+    let eight = onRound 0 n start in
+    let tests = scan-same (λ k. f (all k)) (λ k. g (eight k)) (λ k r. At k) Nobody 0 n (λ k a h. e _ (mod-lt (start + k) (omega arith)) ∙ rw (zero-add ((start + k) % n))) in
+    rw (scan-first (λ k. f (all k)) (λ k. At (all k)) Nobody 0 n, scan-first (λ k. g (eight k)) (λ k. At (eight k)) Nobody 0 n, tests) (places (find (λ k. g (eight k)) 0 n))
+  where
+    places : (who : Found) → ifFound who (λ k. At (onRound b n start k)) Nobody ≡ moved b (ifFound who (λ k. At (onRound 0 n start k)) Nobody)
+    places (At k) = rw (zero-add ((start + k) % n))
+    places Nobody = refl
 
 -- the case of the transaction at place `me`
 abbrev made : ℕ → Item → ℕ → Place → Request → ℕ → Case
@@ -157,7 +170,7 @@ module _ (v : View) (cells : List ℕ) (q : Request) (h : House) (k : Shown h q 
 
     seek-eight : asker h q ≡ moved (q .level * 8) (seek (v .eight) 0 (q .ticket))
     unfolding seek hasTicket freeAt
-    seek-eight = find-moved _ _ (q .level * 8) 8 (λ n b. rw (k .places level n b))
+    seek-eight = round-moved (hasTicket (h .places) (q .ticket)) (hasTicket (v .eight) (q .ticket)) (q .level * 8) 8 (q .ticket) (λ n b. rw (k .places level n b))
 
     vacancy-eight : vacancy (h .places) (q .level) ≡ moved (q .level * 8) (vacancy (v .eight) 0)
     unfolding vacancy freeAt

@@ -1,14 +1,23 @@
--- Ticket 0 is told before the search (`zero-nowhere`). The invariant is that what is left of the eight gives the answer; `search searched` goes
--- on, out and to the end.
-use Prim.Native.Nat.{ℕ, _-_, _<_, _≤_}
+-- Ticket 0 is told before the search (`zero-nowhere`). The invariant is that what is left of the round gives the answer; `search searched` goes
+-- on, out and to the end, and `met` says that the place looked at is the round's.
+use Prim.Native.Nat.{ℕ, _+_, _-_, _%_, _<_, _≤_}
 use native.Mathlib.Omega.{arith}
-use mathlib.Core.Path.{_≡_, refl, sym}
+use native.Mathlib.Nat.{zero-add, mod-add-mod}
+use mathlib.Core.Path.{_≡_, refl, sym, _∙_}
 use mathlib.Core.Logic.{_≢_}
+use mathlib.Core.Bool.{Bool, _&&_, not}
+use mathlib.Core.List.{List}
+use lib.Dec.{eqb}
 use borrow.Author.Needs.{needs}
+use borrow.Author.Tests.{ne-eqb}
 use Rattle.house.proofs.Places.{zero-nowhere}
 use Rattle.house.proofs.Searches.{searched}
-use Rattle.house.specs.House.{hasTicket, seek}
-use Rattle.house.specs.Search.{find}
+use Rattle.house.proofs.Tests.{and-comm, and-yes}
+use Rattle.house.specs.declared.Place.{Place}
+use Rattle.house.specs.declared.Found.{Found}
+use Rattle.house.specs.declared.Found.the-variants.{At, Nobody}
+use Rattle.house.specs.House.{placeAt, isFree, freeAt, hasTicket, seek}
+use Rattle.house.specs.Search.{scan, onRound, findRound}
 use Rattle.judge.proofs.places.lookup.Statement.{statement}
 use Rattle.judge.proofs.places.lookup.Tie as tie
 
@@ -18,15 +27,39 @@ not-yet k n a b = omega arith
 at-end : (k n : ℕ) → k ≡ n → n ≤ k
 at-end k n e = omega arith
 
+-- whether the place that the round comes to after k others has the ticket
+abbrev hasAt : List Place → ℕ → ℕ → Bool
+hasAt eight ticket k = hasTicket eight ticket (onRound 0 8 ticket k)
+
+abbrev foundAt : ℕ → ℕ → Found → Found
+foundAt ticket k r = At (onRound 0 8 ticket k)
+
+comes-to : (ticket k : ℕ) → (ticket % 8 + k) % 8 ≡ onRound 0 8 ticket k
+comes-to ticket k = mod-add-mod ticket 8 k ∙ sym (zero-add ((ticket + k) % 8))
+
+-- the code's test there is that of the rules: a ticket other than 0 is not told from 0 again
+met : (eight : List Place) (ticket k : ℕ) (taken : Bool) → ticket ≢ 0
+    → taken ≡ not (isFree (placeAt eight ((ticket % 8 + k) % 8) .standing))
+    → (eqb (placeAt eight ((ticket % 8 + k) % 8) .ticket) ticket && taken) ≡ hasAt eight ticket k
+unfolding hasTicket freeAt
+met eight ticket k taken n e =
+    let seat = placeAt eight (onRound 0 8 ticket k) in
+    let same = eqb (seat .ticket) ticket in
+    let free = isFree (seat .standing) in
+    rw (e, comes-to ticket k, ne-eqb ticket 0 n) (and-comm same (not free) ∙ sym (and-yes (not free && same)))
+
 abbrev Inv-loop : tie.InvT-loop
-Inv-loop eight ticket k₀ k = (k ≤ 8) × (find (hasTicket eight ticket) 0 8 ≡ find (hasTicket eight ticket) k (8 - k))
+Inv-loop ticket eight start k₀ k = (k ≤ 8) × (findRound (hasTicket eight ticket) 0 8 ticket ≡ scan (hasAt eight ticket) (foundAt ticket) Nobody k (8 - k))
 
 abbrev μ-loop : tie.MeasureT-loop
-μ-loop eight ticket k₀ k = 8 - k
+μ-loop ticket eight start k₀ k = 8 - k
 
 returns : tie.Need-returns Inv-loop μ-loop
 unfolding seek
-returns c = sym (rw (c .if1 .taken) (zero-nowhere _ 0 8))
+returns c = sym (rw (c .if1 .taken) (zero-nowhere _ 0 8 0))
+
+cast-start : tie.Need-cast-start Inv-loop μ-loop
+cast-start c = search needs
 
 loop-holds : tie.Need-loop-holds Inv-loop μ-loop
 loop-holds c = (omega arith, refl)
@@ -35,8 +68,23 @@ returns-2 : tie.Need-returns-2 Inv-loop μ-loop
 unfolding seek
 returns-2 c = search (searched, at-end)
 
-has-ticket-requires : tie.Need-has-ticket-requires Inv-loop μ-loop
-has-ticket-requires c κs = (omega arith, c .before .before .if1 .left)
+add-next : tie.Need-add-next Inv-loop μ-loop
+add-next c = search needs
+
+mul-held : tie.Need-mul-held Inv-loop μ-loop
+mul-held c = omega arith
+
+element-copy-out-held : tie.Need-element-copy-out-held Inv-loop μ-loop
+element-copy-out-held c = omega arith
+
+mul-seat : tie.Need-mul-seat Inv-loop μ-loop
+mul-seat c = omega arith
+
+array-copy-out-seat : tie.Need-array-copy-out-seat Inv-loop μ-loop
+array-copy-out-seat c = omega arith
+
+is-open-requires : tie.Need-is-open-requires Inv-loop μ-loop
+is-open-requires c κs = search needs
 
 add-k : tie.Need-add-k Inv-loop μ-loop
 add-k c = search needs
@@ -45,11 +93,11 @@ loop-less : tie.Need-loop-less Inv-loop μ-loop
 loop-less c = search needs
 
 loop-again : tie.Need-loop-again Inv-loop μ-loop
-loop-again c = (omega arith, search (searched, not-yet))
+loop-again c = let z : tie.Else1 Inv-loop μ-loop = search in (omega arith, search (searched, not-yet, met, z .if1 .left))
 
 returns-3 : tie.Need-returns-3 Inv-loop μ-loop
 unfolding seek
-returns-3 c = search (searched, not-yet)
+returns-3 c = let z : tie.Else1 Inv-loop μ-loop = search in search (searched, not-yet, met, comes-to, z .if1 .left)
 
 pub lookup-spec : {M : Type 1} → statement M
 lookup-spec =
@@ -58,9 +106,15 @@ lookup-spec =
     Inv-loop
     μ-loop
     returns
+    cast-start
     loop-holds
     returns-2
-    has-ticket-requires
+    add-next
+    mul-held
+    element-copy-out-held
+    mul-seat
+    array-copy-out-seat
+    is-open-requires
     add-k
     loop-less
     loop-again
