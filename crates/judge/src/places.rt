@@ -1,9 +1,7 @@
 // The searches over the eight places of one level, which are looked at as if they were those of level 0.
 
 ghost use mathlib.Core.Path.{_≡_};
-ghost use mathlib.Core.Bool.{not};
-ghost use Prim.Native.Nat.{_<_};
-ghost use Rattle.house.specs.House.{isFree, isActive, isCertified, freeAt, seek, vacancy};
+ghost use Rattle.house.specs.House.{isFree, isActive, isCertified, seek, vacancy};
 use house::Found;
 use house::Place;
 use house::Standing;
@@ -38,22 +36,6 @@ pub(crate) fn is_certified(s: Standing) -> bool
     }
 }
 
-fn free_at(eight: [Place; 8], k: usize) -> bool
-    requires { ⌜ k < 8 ⌝ }
-    ensures { λ r. ⌜ r ≡ freeAt eight k ⌝ }
-{
-    let place = eight[k];
-    let standing = place.standing;
-    is_free(standing)
-}
-
-fn is_open(seat: Place) -> bool
-    ensures { λ r. ⌜ r ≡ not (isFree (seat .standing)) ⌝ }
-{
-    let standing = seat.standing;
-    !is_free(standing)
-}
-
 // The search goes round from the ticket modulo 8 and stops at the place found. Ticket 0 names nobody: it is told once, before the
 // search, not at each place. A place is mostly passed by its ticket, so that is read by itself.
 pub(crate) fn lookup(eight: [Place; 8], ticket: u32) -> Found
@@ -71,7 +53,8 @@ pub(crate) fn lookup(eight: [Place; 8], ticket: u32) -> Found
         let next = (start + k) % 8;
         let held = eight[next].ticket;
         let seat = eight[next];
-        if (held == ticket) & is_open(seat) {
+        let standing = seat.standing;
+        if (held == ticket) & !is_free(standing) {
             break next;
         }
         k += 1;
@@ -83,7 +66,9 @@ pub(crate) fn lowest_free(eight: [Place; 8]) -> Found
     ensures { λ r. ⌜ r ≡ vacancy eight 0 ⌝ }
 {
     for k in 0..8 {
-        if free_at(eight, k) {
+        let seat = eight[k];
+        let standing = seat.standing;
+        if is_free(standing) {
             return Found::At(k);
         }
     }

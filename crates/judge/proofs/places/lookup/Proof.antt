@@ -38,15 +38,15 @@ comes-to : (ticket k : ℕ) → (ticket % 8 + k) % 8 ≡ onRound 0 8 ticket k
 comes-to ticket k = mod-add-mod ticket 8 k ∙ sym (zero-add ((ticket + k) % 8))
 
 -- the code's test there is that of the rules: a ticket other than 0 is not told from 0 again
-met : (eight : List Place) (ticket k : ℕ) (taken : Bool) → ticket ≢ 0
-    → taken ≡ not (isFree (placeAt eight ((ticket % 8 + k) % 8) .standing))
-    → (eqb (placeAt eight ((ticket % 8 + k) % 8) .ticket) ticket && taken) ≡ hasAt eight ticket k
+met : (eight : List Place) (ticket k : ℕ) (free : Bool) → ticket ≢ 0
+    → free ≡ isFree (placeAt eight ((ticket % 8 + k) % 8) .standing)
+    → (eqb (placeAt eight ((ticket % 8 + k) % 8) .ticket) ticket && not free) ≡ hasAt eight ticket k
 unfolding hasTicket freeAt
-met eight ticket k taken n e =
+met eight ticket k free n e =
     let seat = placeAt eight (onRound 0 8 ticket k) in
     let same = eqb (seat .ticket) ticket in
-    let free = isFree (seat .standing) in
-    rw (e, comes-to ticket k, ne-eqb ticket 0 n) (and-comm same (not free) ∙ sym (and-yes (not free && same)))
+    let taken = not (isFree (seat .standing)) in
+    rw (e, comes-to ticket k, ne-eqb ticket 0 n) (and-comm same taken ∙ sym (and-yes (taken && same)))
 
 abbrev Inv-loop : tie.InvT-loop
 Inv-loop ticket eight start k₀ k = (k ≤ 8) × (findRound (hasTicket eight ticket) 0 8 ticket ≡ scan (hasAt eight ticket) (foundAt ticket) Nobody k (8 - k))
@@ -83,8 +83,8 @@ mul-seat c = omega arith
 array-copy-out-seat : tie.Need-array-copy-out-seat Inv-loop μ-loop
 array-copy-out-seat c = omega arith
 
-is-open-requires : tie.Need-is-open-requires Inv-loop μ-loop
-is-open-requires c κs = search needs
+is-free-requires : tie.Need-is-free-requires Inv-loop μ-loop
+is-free-requires c κs = search needs
 
 add-k : tie.Need-add-k Inv-loop μ-loop
 add-k c = search needs
@@ -114,7 +114,7 @@ lookup-spec =
     element-copy-out-held
     mul-seat
     array-copy-out-seat
-    is-open-requires
+    is-free-requires
     add-k
     loop-less
     loop-again

@@ -16,11 +16,17 @@ abbrev μ-loop : tie.MeasureT-loop
 loop-holds : tie.Need-loop-holds Inv-loop μ-loop
 loop-holds c = refl
 
-free-at-requires : tie.Need-free-at-requires Inv-loop μ-loop
-free-at-requires c κs = search needs
+mul-seat : tie.Need-mul-seat Inv-loop μ-loop
+mul-seat c = search needs
+
+array-copy-out-seat : tie.Need-array-copy-out-seat Inv-loop μ-loop
+array-copy-out-seat c = search needs
+
+is-free-requires : tie.Need-is-free-requires Inv-loop μ-loop
+is-free-requires c κs = search needs
 
 returns : tie.Need-returns Inv-loop μ-loop
-unfolding vacancy
+unfolding vacancy freeAt
 returns c = search searched
 
 add-k : tie.Need-add-k Inv-loop μ-loop
@@ -30,6 +36,7 @@ loop-less : tie.Need-loop-less Inv-loop μ-loop
 loop-less c = search needs
 
 loop-again : tie.Need-loop-again Inv-loop μ-loop
+unfolding freeAt
 loop-again c = search searched
 
 returns-2 : tie.Need-returns-2 Inv-loop μ-loop
@@ -43,7 +50,9 @@ lowest-free-spec =
     Inv-loop
     μ-loop
     loop-holds
-    free-at-requires
+    mul-seat
+    array-copy-out-seat
+    is-free-requires
     returns
     add-k
     loop-less
