@@ -8,18 +8,12 @@ use borrow.Fn.World
 use contract.Lifetimes
 use denote.Ref.{now}
 use denote.Triple.Clauses
-use Rattle.desk.proofs.single.step as step
-use Rattle.desk.proofs.single.step.Kinds as step-kinds
-use Rattle.desk.proofs.single.step.Reads as step-reads
 use Rattle.desk.proofs.running.turn as turn
 use Rattle.desk.proofs.running.turn.Kinds as turn-kinds
 use Rattle.desk.proofs.running.turn.Reads as turn-reads
 use Rattle.desk.proofs.in_place.turn_in_place as in-place
 use Rattle.desk.proofs.in_place.turn_in_place.Kinds as in-place-kinds
 use Rattle.desk.proofs.in_place.turn_in_place.Reads as in-place-reads
-
-pub step-settled : (κs : Lifetimes.Lfts 0) (a : World.ArgsD step.signature κs) (r r′ : World.ResD step.signature κs) (s s′ : Clauses.AtExit (Kinds'.endedOf 0 step-kinds.ps step-kinds.r) κs) → step-reads.Post κs a r s → step-reads.Post κs a r′ s′ → r ≡ r′
-step-settled κs a r r′ s s′ p q = p ∙ sym q
 
 pub turn-settled : (κs : Lifetimes.Lfts 2) (a : World.ArgsD turn.signature κs) (r r′ : World.ResD turn.signature κs) (s s′ : Clauses.AtExit (Kinds'.endedOf 2 turn-kinds.ps turn-kinds.r) κs) → turn-reads.Post κs a r s → turn-reads.Post κs a r′ s′ → (r ≡ r′) × (now (s .1 .1 .0) ≡ now (s′ .1 .1 .0))
 turn-settled κs a r r′ s s′ p q = (p .0 ∙ sym (q .0), p .1 ∙ sym (q .1))

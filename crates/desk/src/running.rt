@@ -6,8 +6,8 @@ use crate::Served;
 use crate::bytes::least;
 use crate::bytes::put_reply;
 use crate::bytes::request_at;
-use crate::single::step;
 use house::House;
+use step::step;
 
 pub fn turn(h: House, requests: &[u8], replies: &mut [u8], most: usize) -> Served
     ensures { λ r. ⌜ (r ≡ turned h (now (requests .entry)) (now (replies .entry)) most)

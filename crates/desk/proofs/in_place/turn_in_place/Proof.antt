@@ -20,7 +20,8 @@ use Rattle.ruling.specs.declared.Change.{Change}
 use Rattle.sweeps.specs.Sweep.{swept}
 use Rattle.sweeps.proofs.Changes.{begin-there, write-there, certify-there, end-there, kept-is, begun-is, read-is, written-is, certified-is, ended-is, went, passed}
 use Rattle.desk.proofs.Laws.{turned-at, answered-at, finally-keeps}
-use Rattle.desk.proofs.Requests.{fit, housed-made, written-made}
+use Rattle.step.proofs.Requests.{fit}
+use Rattle.desk.proofs.Requests.{housed-made, written-made}
 use Rattle.desk.proofs.in_place.turn_in_place.Statement.{statement}
 use Rattle.desk.proofs.in_place.turn_in_place.Tie as tie
 use Rattle.desk.specs.Turn.{requests, wired, housed, written}

@@ -1,9 +1,9 @@
 -- What is read of the house for the judge is in its bounds; what the judge, the reply and `perform` promise is the step, by the laws of one
 -- request (`Requests`).
 use borrow.Author.Needs.{needs}
-use Rattle.desk.proofs.Requests.{unchanged, changed}
-use Rattle.desk.proofs.single.step.Statement.{statement}
-use Rattle.desk.proofs.single.step.Tie as tie
+use Rattle.step.proofs.Requests.{unchanged, changed}
+use Rattle.step.proofs.step.Statement.{statement}
+use Rattle.step.proofs.step.Tie as tie
 
 cast-level : tie.Need-cast-level
 cast-level c = search needs

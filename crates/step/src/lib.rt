@@ -1,4 +1,4 @@
-// One request, by value. A refusal or a delay hands back the house that came.
+// One request, by value: the judge, and then the change that it names. A refusal or a delay hands back the house that came.
 
 ghost use mathlib.Core.Path.{_≡_};
 ghost use Rattle.house.specs.Rules.{stepped};
