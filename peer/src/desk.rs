@@ -184,7 +184,7 @@ impl Desk {
         }
         self.check_unsignalled(me)?;
         self.check_standing(me, Standing::Active)?;
-        if self.others(me).any(|other| other.cell(number).certify) {
+        if !self.conflicts(me, request).is_empty() {
             return Err(Refusal::Delayed);
         }
         // The lock decides whose value is read, not the pending value.
@@ -212,8 +212,7 @@ impl Desk {
         if item.version == u32::MAX {
             return Err(Refusal::VersionsSpent);
         }
-        let in_the_way = |cell: Cell| cell.write || cell.certify;
-        if self.others(me).any(|other| in_the_way(other.cell(number))) {
+        if !self.conflicts(me, request).is_empty() {
             return Err(Refusal::Delayed);
         }
         self.places[me].cell_mut(number).write = true;
@@ -225,16 +224,14 @@ impl Desk {
         let me = self.find(request.level, request.ticket)?;
         self.check_unsignalled(me)?;
         self.check_standing(me, Standing::Active)?;
-        let level = request.level;
-        let written = self.places[me].written();
-        if self.others(me).any(|other| other.level == level && other.reads_one_of(&written)) {
+        if !self.conflicts(me, request).is_empty() {
             return Err(Refusal::Delayed);
         }
-        for &item in &written {
+        for item in self.places[me].written() {
             let cell = self.places[me].cell_mut(item);
             cell.write = false;
             cell.certify = true;
-            for above in self.places.iter_mut().filter(|place| place.level > level) {
+            for above in self.places.iter_mut().filter(|place| place.level > request.level) {
                 if above.cell(item).read {
                     above.cell_mut(item).signalled = true;
                 }
@@ -297,10 +294,20 @@ impl Desk {
         self.items.iter().map(|item| item.level).collect()
     }
 
-    /// The open transactions other than the one at place `me`, whose own locks never conflict.
-    fn others(&self, me: usize) -> impl Iterator<Item = &Place> {
-        let is_other = move |(index, place): &(usize, &Place)| *index != me && place.is_taken();
-        self.places.iter().enumerate().filter(is_other).map(|(_, place)| place)
+    /// The locks in the way of what the transaction at place `me` asks for, each by its item and
+    /// place: the lowest item first, on each the lowest place. Its own locks never conflict with it.
+    pub fn conflicts(&self, me: usize, request: &Request) -> Vec<(usize, usize)> {
+        let is_certify = request.is(Operation::Certify);
+        let items = if is_certify { self.places[me].written() } else { vec![request.item.into()] };
+        let mut conflicts = Vec::new();
+        for item in items {
+            for (place, other) in self.places.iter().enumerate() {
+                if place != me && other.is_taken() && is_in_the_way(request, other, item) {
+                    conflicts.push((item, place));
+                }
+            }
+        }
+        conflicts
     }
 
     fn check_unsignalled(&self, me: usize) -> Result<(), Refusal> {
@@ -317,6 +324,17 @@ impl Desk {
         } else {
             Err(Refusal::WrongTime)
         }
+    }
+}
+
+/// Whether a lock of another transaction on the item conflicts with the request.
+fn is_in_the_way(request: &Request, other: &Place, item: usize) -> bool {
+    let cell = other.cell(item);
+    match Operation::from_number(request.operation) {
+        Some(Operation::Read) => cell.certify,
+        Some(Operation::Write) => cell.write || cell.certify,
+        Some(Operation::Certify) => cell.read && other.level == request.level,
+        _ => false,
     }
 }
 

@@ -74,15 +74,12 @@ fn converts_free_items(desk: &mut Desk, request: &Request) -> Reply {
     let Ok(me) = desk.find(request.level, request.ticket) else {
         return reply;
     };
-    for item in desk.written_by(request) {
-        let is_beside = |(place, other): (usize, &Place)| {
-            place != me && other.level == request.level && other.cell(item).read
-        };
-        if !desk.places.iter().enumerate().any(is_beside) {
-            let cell = desk.places[me].cell_mut(item);
-            cell.write = false;
-            cell.certify = true;
-        }
+    let conflicts = desk.conflicts(me, request);
+    let is_free = |item: &usize| conflicts.iter().all(|(taken, _)| taken != item);
+    for item in desk.written_by(request).into_iter().filter(is_free) {
+        let cell = desk.places[me].cell_mut(item);
+        cell.write = false;
+        cell.certify = true;
     }
     reply
 }
