@@ -61,9 +61,20 @@ fn the_peer_agrees_with_itself() {
     assert_says(&["talk", "--day", &own], 0, &["the peer's desk agrees with each"]);
 }
 
+/// How many slips there are; `wrong_usage_is_told` sees that none is left out here.
+const SLIPS: usize = 12;
+
+/// Those by which a level below notices somebody above, with what `quiet` says of each.
+const NOTICED: [(usize, &str, &str); 4] = [
+    (1, " certifies", "they differ in value (whole list: 3, struck list: 0)"),
+    (2, " certifies", "they differ in number (whole list: 1, struck list: 0)"),
+    (10, "begin at level 0", "they differ in ticket (whole list: 21, struck list: 1)"),
+    (11, "begin at level 0", "they differ in number (whole list: 11, struck list: 0)"),
+];
+
 #[test]
 fn compare_finds_every_slip() {
-    for slip in 1..=11 {
+    for slip in 1..=SLIPS {
         let program = format!("{PEER} slip {slip}");
         let wanted = ["the outputs differ", "they differ in", "the house before it"];
         assert_says(&["compare", &program, "100", "400"], 1, &wanted);
@@ -72,13 +83,7 @@ fn compare_finds_every_slip() {
 
 #[test]
 fn quiet_finds_what_a_level_below_can_notice() {
-    let wanted = [
-        ("1", " certifies", "they differ in value (whole list: 3, struck list: 0)"),
-        ("2", " certifies", "they differ in number (whole list: 1, struck list: 0)"),
-        ("10", "begin at level 0", "they differ in ticket (whole list: 21, struck list: 1)"),
-        ("11", "begin at level 0", "they differ in number (whole list: 11, struck list: 0)"),
-    ];
-    for (slip, request, fields) in wanted {
+    for (slip, request, fields) in NOTICED {
         let where_found =
             "with the requests above level 0 struck: a reply is not the same\nrequest";
         let wanted = ["input of 'peer gen", where_found, request, fields, "the house before it"];
@@ -89,7 +94,8 @@ fn quiet_finds_what_a_level_below_can_notice() {
 /// `compare` finds these slips; but no level notices by them what is above it.
 #[test]
 fn quiet_is_about_what_is_above_and_not_about_agreement() {
-    for slip in 3..=9 {
+    let is_noticed = |slip: &usize| NOTICED.iter().any(|(noticed, ..)| noticed == slip);
+    for slip in (1..=SLIPS).filter(|slip| !is_noticed(slip)) {
         let program = format!("{PEER} slip {slip}");
         assert_says(&["quiet", &program, "20", "400"], 0, &["struck 20 inputs", ": no difference"]);
     }
@@ -304,7 +310,7 @@ fn wrong_usage_is_told() {
     assert_says(&["beside"], 2, &["wrong usage of beside", "beside K", "beside --day"]);
     assert_says(&["beside", "256"], 2, &["'256' is not a level: a number from 0 to 255 is wanted"]);
     assert_says(&["bytes", "x"], 2, &["wrong usage of bytes"]);
-    assert_says(&["slip", "0"], 2, &["there is no slip 0"]);
+    assert_says(&["slip", "0"], 2, &[&format!("there is no slip 0: K is 1 to {SLIPS}\n")]);
     assert_says(&["--help"], 0, &["usage: peer COMMAND"]);
 }
 
