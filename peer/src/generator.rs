@@ -20,8 +20,8 @@ struct Mood {
 const MOODS: [Mood; 6] = [
     // The places fill up.
     Mood { begins: 60, weights: [0, 6, 4, 1, 1, 1, 1], items: 4, crowd: 32 },
-    // A few seek the same few items.
-    Mood { begins: 10, weights: [0, 6, 10, 4, 1, 1, 1], items: 4, crowd: 5 },
+    // A class begins, and seeks the same few items.
+    Mood { begins: 30, weights: [0, 8, 8, 1, 1, 1, 1], items: 8, crowd: 8 },
     // Readers spread over the house.
     Mood { begins: 8, weights: [0, 16, 2, 2, 1, 1, 2], items: MOST_ITEMS, crowd: 12 },
     // Writers certify with few readers beside them, so that readers above are signalled.
@@ -34,6 +34,8 @@ const MOODS: [Mood; 6] = [
 
 /// A transaction that holds no lock yet mostly takes one.
 const WHEN_FRESH: [usize; 7] = [0, 10, 8, 1, 1, 1, 1];
+/// One whose certify others hold up tries it, and writes on, so that several items are in its way.
+const WHEN_HELD_UP: [usize; 7] = [0, 1, 4, 4, 0, 0, 0];
 /// A signalled one asks, tries the rest as well, and lingers, so that signals add up.
 const WHEN_SIGNALLED: [usize; 7] = [0, 2, 2, 2, 3, 1, 4];
 /// A certified one mostly commits, and now and then forgets that it is certified.
@@ -155,14 +157,16 @@ impl Generator {
         open.get(index % open.len().max(1)).copied()
     }
 
-    fn next_operation(&mut self, place: usize) -> Operation {
-        let place = &self.desk.places[place];
+    fn next_operation(&mut self, me: usize) -> Operation {
+        let place = &self.desk.places[me];
         let weights = if !place.signalled().is_empty() {
             &WHEN_SIGNALLED
         } else if place.standing == Standing::Certified {
             &WHEN_CERTIFIED
         } else if place.cells.is_empty() {
             &WHEN_FRESH
+        } else if self.is_held_up(me) {
+            &WHEN_HELD_UP
         } else {
             &self.mood.weights
         };
@@ -174,6 +178,14 @@ impl Generator {
         } else {
             operation
         }
+    }
+
+    /// Whether a certify of the transaction at this place would be delayed.
+    fn is_held_up(&self, me: usize) -> bool {
+        let Place { level, ticket, .. } = self.desk.places[me];
+        let operation = Operation::Certify.number();
+        let certify = Request { operation, level, ticket, ..Request::default() };
+        !self.desk.conflicts(me, &certify).is_empty()
     }
 
     /// An item that the level may use, or any when it has none.
@@ -366,7 +378,7 @@ mod tests {
         }
         assert_ne!(input(1, 100), input(2, 100));
         // Written down once, so that a changed generator is noticed.
-        assert_eq!(fingerprint(&input(7, 50)), 14079413084917326477);
+        assert_eq!(fingerprint(&input(7, 500)), 2023665240930051568);
     }
 
     fn fingerprint(bytes: &[u8]) -> u64 {

@@ -64,12 +64,13 @@ fn the_peer_agrees_with_itself() {
 /// How many slips there are; `wrong_usage_is_told` sees that none is left out here.
 const SLIPS: usize = 12;
 
-/// Those by which a level below notices somebody above, with what `quiet` says of each.
-const NOTICED: [(usize, &str, &str); 4] = [
-    (1, " certifies", "they differ in value (whole list: 3, struck list: 0)"),
-    (2, " certifies", "they differ in number (whole list: 1, struck list: 0)"),
-    (10, "begin at level 0", "they differ in ticket (whole list: 21, struck list: 1)"),
-    (11, "begin at level 0", "they differ in number (whole list: 11, struck list: 0)"),
+/// Those by which a level below notices somebody above, with what `quiet` says of each: the level,
+/// the request and the fields.
+const NOTICED: [(usize, u8, &str, &str); 4] = [
+    (1, 0, " certifies", "they differ in value (whole list: 6, struck list: 0)"),
+    (2, 0, " certifies", "they differ in number (whole list: 1, struck list: 0)"),
+    (10, 0, "begin at level 0", "they differ in ticket (whole list: 31, struck list: 1)"),
+    (11, 2, "begin at level 2", "they differ in number (whole list: 11, struck list: 0)"),
 ];
 
 #[test]
@@ -83,10 +84,11 @@ fn compare_finds_every_slip() {
 
 #[test]
 fn quiet_finds_what_a_level_below_can_notice() {
-    for (slip, request, fields) in NOTICED {
-        let where_found =
-            "with the requests above level 0 struck: a reply is not the same\nrequest";
-        let wanted = ["input of 'peer gen", where_found, request, fields, "the house before it"];
+    for (slip, level, request, fields) in NOTICED {
+        let struck = format!(
+            "with the requests above level {level} struck: a reply is not the same\nrequest"
+        );
+        let wanted = ["input of 'peer gen", &struck, request, fields, "the house before it"];
         assert_says(&["quiet", &format!("{PEER} slip {slip}"), "100", "400"], 1, &wanted);
     }
 }
