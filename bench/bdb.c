@@ -86,6 +86,19 @@ static bool locked(uint32_t locker, uint16_t item, int mode, DB_LOCK *lock) {
     return true;
 }
 
+// Berkeley DB says that a lock was not granted, and not who has one in the way. That is looked for beside
+// it, and only then: at the item's level, of a certify who reads the item, of the others who has written it.
+static int delayed(const struct request *q, uint16_t item, const struct place *me, struct reply *a) {
+    int first = house.level[item] * PLACES_PER_LEVEL;
+    for (int p = first; p < first + PLACES_PER_LEVEL; p++) {
+        const struct place *other = &house.places[p];
+        uint64_t held = q->operation == CERTIFY ? other->reads : other->writes;
+        if (other != me && (held >> item & 1)) return delayed_by(a, other->ticket, p);
+    }
+    must(DB_LOCK_NOTGRANTED, "nobody is in the way");
+    return DELAYED;
+}
+
 static void release(struct place *me) {
     DB_LOCKREQ all = {.op = DB_LOCK_PUT_ALL};
     calls += 2;
@@ -142,7 +155,7 @@ static int read_item(const struct request *q, struct place *me, struct reply *a)
     if (!(me->reads & bit)) {
         DB_LOCK lock;
         int mode = house.level[q->item] < q->level ? MODE_SIGNAL : MODE_READ;
-        if (!locked(me->locker, q->item, mode, &lock)) return DELAYED;
+        if (!locked(me->locker, q->item, mode, &lock)) return delayed(q, q->item, me, a);
         me->reads |= bit;
     }
     bool own = me->writes & bit;
@@ -151,7 +164,7 @@ static int read_item(const struct request *q, struct place *me, struct reply *a)
     return DONE;
 }
 
-static int write_item(const struct request *q, struct place *me) {
+static int write_item(const struct request *q, struct place *me, struct reply *a) {
     if (q->item >= house.count) return NO_ITEM;
     if (house.level[q->item] != q->level) return WRONG_LEVEL;
     if (q->value == 0) return BLANK_SHEET;
@@ -160,7 +173,8 @@ static int write_item(const struct request *q, struct place *me) {
     if (house.version[q->item] == UINT32_MAX) return VERSIONS_SPENT;
     uint64_t bit = UINT64_C(1) << q->item;
     if (!(me->writes & bit)) {
-        if (!locked(me->locker, q->item, MODE_WRITE, &me->written[q->item])) return DELAYED;
+        if (!locked(me->locker, q->item, MODE_WRITE, &me->written[q->item]))
+            return delayed(q, q->item, me, a);
         me->writes |= bit;
     }
     house.pending[q->item] = q->value;
@@ -169,7 +183,7 @@ static int write_item(const struct request *q, struct place *me) {
 
 // All write locks become certify locks or none does: the certify locks are taken beside the write
 // locks, and then one kind or the other is released.
-static int certify(const struct request *q, struct place *me) {
+static int certify(const struct request *q, struct place *me, struct reply *a) {
     if (me->signalled) return SIGNALLED;
     if (me->standing != ACTIVE) return WRONG_TIME;
     DB_LOCKREQ asked[MOST_ITEMS], *failed = NULL;
@@ -198,7 +212,8 @@ static int certify(const struct request *q, struct place *me) {
             calls++;
             must(env->lock_vec(env, me->locker, 0, asked, got, NULL), "lock_vec");
         }
-        if (!granted) return DELAYED;
+        // They were asked for from the lowest item on, and the first that was not granted ended it.
+        if (!granted) return delayed(q, numbers[got], me, a);
     }
     for (int p = (q->level + 1) * PLACES_PER_LEVEL; p < PLACES; p++)
         house.places[p].signalled |= house.places[p].reads & me->writes;
@@ -243,8 +258,8 @@ static int serve(const struct request *q, struct reply *a) {
     struct place *me = &house.places[p];
     switch (q->operation) {
     case READ: return read_item(q, me, a);
-    case WRITE: return write_item(q, me);
-    case CERTIFY: return certify(q, me);
+    case WRITE: return write_item(q, me, a);
+    case CERTIFY: return certify(q, me, a);
     case COMMIT: return commit(me);
     case ABORT: return end(me, false);
     default: return ask(me, a);

@@ -22,12 +22,17 @@ struct example {
 
 static const uint8_t marked_levels[] = {0, 0, 2}, day_levels[] = {0};
 
-// A request beside the reply it must get; l is a level, t a ticket, i an item, n a number.
+// A request beside the reply it must get; l is a level, t a ticket, i an item, n a number; a delay has
+// its holder's ticket and level.
 #define BEGINS(l, t) {{BEGIN, l, 0, 0, 0}, {DONE, BEGIN, 0, t, 0, 0}}
 #define BEGIN_REFUSED(l, n) {{BEGIN, l, 0, 0, 0}, {n, BEGIN, 0, 0, 0, 0}}
 #define READS(l, t, i, value, version) {{READ, l, i, t, 0}, {DONE, READ, i, t, value, version}}
 #define READ_REFUSED(l, t, i, n) {{READ, l, i, t, 0}, {n, READ, i, t, 0, 0}}
 #define WRITES(l, t, i, value, n) {{WRITE, l, i, t, value}, {n, WRITE, i, t, 0, 0}}
+#define WRITE_DELAYED(l, t, i, value, holder, level)                                             \
+    {{WRITE, l, i, t, value}, {DELAYED, WRITE, i, t, holder, level}}
+#define CERTIFY_DELAYED(l, t, holder, level)                                                     \
+    {{CERTIFY, l, 0, t, 0}, {DELAYED, CERTIFY, 0, t, holder, level}}
 #define ASKS(l, t, i, count) {{ASK, l, 0, t, 0}, {DONE, ASK, i, t, count, 0}}
 #define CALLS(operation, l, t, n) {{operation, l, 0, t, 0}, {n, operation, 0, t, 0, 0}}
 
@@ -36,8 +41,8 @@ static const uint8_t marked_levels[] = {0, 0, 2}, day_levels[] = {0};
 #define UP_TO_M6                                                                                 \
     BEGINS(0, 1), BEGINS(0, 2), BEGINS(0, 3), BEGINS(0, 4), BEGINS(0, 5), BEGINS(0, 6),          \
         BEGINS(0, 7), BEGINS(0, 8), BEGIN_REFUSED(0, PLACES_TAKEN), BEGINS(1, 1)
-#define UP_TO_M8 THREE_OPEN, WRITES(0, 1, 0, 7, DONE), WRITES(0, 2, 0, 8, DELAYED)
-#define UP_TO_M9 UP_TO_M8, READS(0, 2, 0, 0, 0), CALLS(CERTIFY, 0, 1, DELAYED)
+#define UP_TO_M8 THREE_OPEN, WRITES(0, 1, 0, 7, DONE), WRITE_DELAYED(0, 2, 0, 8, 1, 0)
+#define UP_TO_M9 UP_TO_M8, READS(0, 2, 0, 0, 0), CERTIFY_DELAYED(0, 1, 2, 0)
 #define UP_TO_M11                                                                                \
     THREE_OPEN, READS(2, 1, 0, 0, 0), WRITES(0, 1, 0, 7, DONE), CALLS(CERTIFY, 0, 1, DONE),      \
         CALLS(CERTIFY, 2, 1, SIGNALLED), ASKS(2, 1, 0, 1)

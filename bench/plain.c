@@ -28,11 +28,11 @@ bool plain_is_signalled(const struct plain_house *h, int me) {
     return false;
 }
 
-// Whether another transaction holds one of these locks on the item.
-static bool other_holds(const struct plain_house *h, size_t item, int me, int locks) {
+// The lowest place of another transaction that holds one of these locks on the item.
+static int holder(const struct plain_house *h, size_t item, int me, int locks) {
     for (int p = 0; p < PLACES; p++)
-        if (p != me && (h->cells[item][p] & locks)) return true;
-    return false;
+        if (p != me && (h->cells[item][p] & locks)) return p;
+    return NOBODY;
 }
 
 static int begin(struct plain_house *h, const struct request *q, struct reply *a) {
@@ -53,7 +53,8 @@ static int read_item(struct plain_house *h, const struct request *q, int me, str
     if (item->level > q->level) return WRONG_LEVEL;
     if (plain_is_signalled(h, me)) return SIGNALLED;
     if (h->places[me].standing != ACTIVE) return WRONG_TIME;
-    if (other_holds(h, q->item, me, CERTIFIES)) return DELAYED;
+    int p = holder(h, q->item, me, CERTIFIES);
+    if (p != NOBODY) return delayed_by(a, h->places[p].ticket, p);
     uint8_t *cell = &h->cells[q->item][me];
     *cell |= READS;
     if (*cell & WRITES) {
@@ -66,7 +67,7 @@ static int read_item(struct plain_house *h, const struct request *q, int me, str
     return DONE;
 }
 
-static int write_item(struct plain_house *h, const struct request *q, int me) {
+static int write_item(struct plain_house *h, const struct request *q, int me, struct reply *a) {
     if (q->item >= h->count) return NO_ITEM;
     struct plain_item *item = &h->items[q->item];
     if (item->level != q->level) return WRONG_LEVEL;
@@ -74,20 +75,22 @@ static int write_item(struct plain_house *h, const struct request *q, int me) {
     if (plain_is_signalled(h, me)) return SIGNALLED;
     if (h->places[me].standing != ACTIVE) return WRONG_TIME;
     if (item->version == UINT32_MAX) return VERSIONS_SPENT;
-    if (other_holds(h, q->item, me, WRITES | CERTIFIES)) return DELAYED;
+    int p = holder(h, q->item, me, WRITES | CERTIFIES);
+    if (p != NOBODY) return delayed_by(a, h->places[p].ticket, p);
     h->cells[q->item][me] |= WRITES;
     item->pending = q->value;
     return DONE;
 }
 
-static int certify(struct plain_house *h, const struct request *q, int me) {
+static int certify(struct plain_house *h, const struct request *q, int me, struct reply *a) {
     if (plain_is_signalled(h, me)) return SIGNALLED;
     if (h->places[me].standing != ACTIVE) return WRONG_TIME;
     int first = q->level * PLACES_PER_LEVEL, above = first + PLACES_PER_LEVEL;
+    // The first that is met is on the lowest item, and there at the lowest place.
     for (size_t i = 0; i < h->count; i++) {
         if (!(h->cells[i][me] & WRITES)) continue;
         for (int p = first; p < above; p++)
-            if (p != me && (h->cells[i][p] & READS)) return DELAYED;
+            if (p != me && (h->cells[i][p] & READS)) return delayed_by(a, h->places[p].ticket, p);
     }
     for (size_t i = 0; i < h->count; i++) {
         if (!(h->cells[i][me] & WRITES)) continue;
@@ -140,8 +143,8 @@ static int serve(struct plain_house *h, const struct request *q, struct reply *a
     if (me == NOBODY) return NO_TRANSACTION;
     switch (q->operation) {
     case READ: return read_item(h, q, me, a);
-    case WRITE: return write_item(h, q, me);
-    case CERTIFY: return certify(h, q, me);
+    case WRITE: return write_item(h, q, me, a);
+    case CERTIFY: return certify(h, q, me, a);
     case COMMIT: return commit(h, me);
     case ABORT: end(h, me, false); return DONE;
     default: return ask(h, me, a);

@@ -40,6 +40,14 @@ static inline int held_by_others(struct tuned_house *h, size_t item, int me) {
     return seen;
 }
 
+// Who holds it is looked for only where somebody does, so that a done request pays for no search. A lock in
+// the way is held from the item's own level.
+static int delayed(const struct tuned_house *h, size_t item, int me, int locks, struct reply *a) {
+    int p = h->level[item] * PLACES_PER_LEVEL;
+    while (p == me || !(h->cells[p][item] & locks)) p++;
+    return delayed_by(a, h->ticket[p], p);
+}
+
 static inline int begin(struct tuned_house *h, const struct request *q, struct reply *a) {
     uint32_t *tickets = h->ticket + q->level * PLACES_PER_LEVEL;
     int free_place = NOBODY;
@@ -60,7 +68,7 @@ static inline int read_item(struct tuned_house *h, const struct request *q, int 
     if (h->level[i] > q->level) return WRONG_LEVEL;
     if (is_signalled(h, me)) return SIGNALLED;
     if (h->certified[me]) return WRONG_TIME;
-    if (held_by_others(h, i, me) & CERTIFIES) return DELAYED;
+    if (held_by_others(h, i, me) & CERTIFIES) return delayed(h, i, me, CERTIFIES, a);
     uint8_t cell = h->cells[me][i];
     h->cells[me][i] = cell | READS;
     a->value = cell & WRITES ? h->pending[i] : h->value[i];
@@ -68,7 +76,8 @@ static inline int read_item(struct tuned_house *h, const struct request *q, int 
     return DONE;
 }
 
-static inline int write_item(struct tuned_house *h, const struct request *q, int me) {
+static inline int write_item(struct tuned_house *h, const struct request *q, int me,
+                             struct reply *a) {
     size_t i = q->item;
     if (i >= h->count) return NO_ITEM;
     if (h->level[i] != q->level) return WRONG_LEVEL;
@@ -76,13 +85,15 @@ static inline int write_item(struct tuned_house *h, const struct request *q, int
     if (is_signalled(h, me)) return SIGNALLED;
     if (h->certified[me]) return WRONG_TIME;
     if (h->version[i] == UINT32_MAX) return VERSIONS_SPENT;
-    if (held_by_others(h, i, me) & (WRITES | CERTIFIES)) return DELAYED;
+    if (held_by_others(h, i, me) & (WRITES | CERTIFIES))
+        return delayed(h, i, me, WRITES | CERTIFIES, a);
     h->cells[me][i] |= WRITES;
     h->pending[i] = q->value;
     return DONE;
 }
 
-static inline int certify(struct tuned_house *h, const struct request *q, int me) {
+static inline int certify(struct tuned_house *h, const struct request *q, int me,
+                          struct reply *a) {
     if (is_signalled(h, me)) return SIGNALLED;
     if (h->certified[me]) return WRONG_TIME;
     uint8_t written[MOST_ITEMS], read[MOST_ITEMS] = {0}, hit = 0;
@@ -94,7 +105,11 @@ static inline int certify(struct tuned_house *h, const struct request *q, int me
         for (int i = 0; i < MOST_ITEMS; i++) read[i] |= h->cells[p][i] & other;
     }
     for (int i = 0; i < MOST_ITEMS; i++) hit |= read[i] & written[i];
-    if (hit) return DELAYED;
+    if (hit) {
+        size_t lowest = 0;
+        while (!(read[lowest] & written[lowest])) lowest++;
+        return delayed(h, lowest, me, READS, a);
+    }
     for (int p = above; p < PLACES; p++)
         for (int i = 0; i < MOST_ITEMS; i++)
             h->cells[p][i] |= (h->cells[p][i] & written[i]) * IS_SIGNALLED;
@@ -143,8 +158,8 @@ static inline int serve(struct tuned_house *h, const struct request *q, struct r
     if (me == NOBODY) return NO_TRANSACTION;
     switch (q->operation) {
     case READ: return read_item(h, q, me, a);
-    case WRITE: return write_item(h, q, me);
-    case CERTIFY: return certify(h, q, me);
+    case WRITE: return write_item(h, q, me, a);
+    case CERTIFY: return certify(h, q, me, a);
     case COMMIT: return commit(h, me);
     case ABORT: end(h, me, false); return DONE;
     default: return ask(h, me, a);

@@ -90,6 +90,13 @@ static inline struct reply repeating(const struct request *q) {
     return (struct reply){.operation = q->operation, .item = q->item, .ticket = q->ticket};
 }
 
+// A delay says who holds it (CR 5): the ticket in the value field, the level in the version field.
+static inline int delayed_by(struct reply *a, uint32_t ticket, int place) {
+    a->value = ticket;
+    a->version = (uint32_t)(place / PLACES_PER_LEVEL);
+    return DELAYED;
+}
+
 // The checks that need no house: 3, 4, 5; 0 where none applies.
 static inline int misshapen(const struct request *q) {
     if (q->operation >= OPERATIONS) return NO_OPERATION;

@@ -15,10 +15,14 @@ use std::io::Write;
 const DAY: &str = "\
 open 0 0 2
 begin 0
+begin 0
 begin 2
 read 2 #1 item 0
 write 0 #1 item 0 = 7
+read 0 #2 item 0
 write 2 #1 item 2 = 5
+certify 0 #1
+abort 0 #2
 certify 0 #1
 certify 2 #1
 begin 0
@@ -26,15 +30,15 @@ commit 0 #1
 abort 2 #1
 begin 2
 read 2 #2 item 0
-read 0 #2 item 0
+read 0 #3 item 0
 write 2 #2 item 2 = 5
-write 0 #2 item 1 = 8
+write 0 #3 item 1 = 8
 certify 2 #2
 commit 2 #2
-certify 0 #2
-commit 0 #2
+certify 0 #3
+commit 0 #3
 begin 0
-read 0 #3 item 1
+read 0 #4 item 1
 ";
 
 /// Where the pupils are; the teacher is above.

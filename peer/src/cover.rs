@@ -1,11 +1,14 @@
 //! Which replies the generated inputs meet: all that the rules let a run reach must be there.
 
+mod delays;
+
 use crate::desk::{Desk, Place, Refusal, Standing, PLACES_PER_LEVEL};
 use crate::generator;
 use crate::progress::each_seed;
 use crate::run::Run;
 use crate::stop::Stop;
 use crate::wire::{split_header, Operation, Reply, Request, REPLY_BYTES, REQUEST_BYTES};
+use delays::{Delay, Delays};
 use std::io::{self, Write};
 
 /// Rows: the operations, then all numbers above 6 together.
@@ -62,6 +65,7 @@ struct Counts {
     /// Writes of 0, by what the same write of 1 is answered: 15 comes behind some of these numbers
     /// and before the others.
     blank: [u64; NUMBERS.len()],
+    delays: Delays,
     opened: u64,
     refused_13: u64,
     refused_14: u64,
@@ -89,7 +93,8 @@ impl Counts {
             let request = Request::from_bytes(bytes);
             self.note_named(run.desk(), &request);
             self.note_blank(run.desk(), &request);
-            self.note_reply(&run.feed(bytes));
+            let reply = run.feed(bytes);
+            self.note_reply(run.desk(), &request, &reply);
             requests = rest;
         }
     }
@@ -113,11 +118,17 @@ impl Counts {
         }
     }
 
-    fn note_reply(&mut self, bytes: &[u8]) {
+    fn note_reply(&mut self, desk: Option<&Desk>, request: &Request, bytes: &[u8]) {
         let Some(reply) = bytes.first_chunk::<REPLY_BYTES>().map(Reply::from_bytes) else {
             self.strange += 1;
             return;
         };
+        if reply.number == Refusal::Delayed.number() {
+            match desk.and_then(|desk| Delay::of(desk, request, &reply)) {
+                Some(delay) => self.delays.note(&delay),
+                None => self.strange += 1,
+            }
+        }
         let row = usize::from(reply.operation).min(ROWS - 1);
         match column(reply.number) {
             Some(column) => self.replies[row][column] += 1,
@@ -149,6 +160,7 @@ impl Counts {
         for (passed, _) in self.passed.iter().enumerate().filter(|(_, count)| **count == 0) {
             faults.push(format!("no search from the ticket modulo 8 had to pass {passed} places"));
         }
+        faults.extend(self.delays.faults());
         let openings = [
             ("opened", self.opened),
             ("refused 13", self.refused_13),
@@ -158,7 +170,7 @@ impl Counts {
             faults.push(format!("no house was {name}"));
         }
         if self.strange > 0 {
-            faults.push(format!("{} replies have a number nobody may give", self.strange));
+            faults.push(format!("{} replies are such as nobody may give", self.strange));
         }
         faults
     }
@@ -203,6 +215,7 @@ impl Counts {
             "requests by the places that their search passes, 0 to 7: {}",
             self.passed.map(|count| count.to_string()).join("; ")
         )?;
+        self.delays.print(out)?;
         writeln!(out, "\nrequests by operation and standing of the transaction named")?;
         for operation in Operation::ALL.into_iter().filter(|operation| operation.uses_ticket()) {
             let counts = self.standings[usize::from(operation.number())];

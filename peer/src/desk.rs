@@ -1,11 +1,11 @@
 //! The desk: the house of document 01 and its rules, with the change requests that have landed
-//! (CR 1), written as plainly as they stand there.
+//! (CR 1, CR 5), written as plainly as they stand there.
 
 use crate::wire::{Operation, Reply, Request};
 use std::collections::BTreeMap;
 
 #[cfg(test)]
-mod tests;
+pub mod tests;
 
 pub const LEVELS: u8 = 4;
 pub const PLACES_PER_LEVEL: usize = 8;
@@ -133,7 +133,8 @@ impl Desk {
     /// One request, one reply. Any reply but done leaves the house as it was.
     pub fn answer(&mut self, request: &Request) -> Reply {
         match self.serve(request) {
-            Ok(done) => done,
+            // A delay carries its holder; a refusal carries nothing.
+            Ok(done_or_delayed) => done_or_delayed,
             Err(refusal) => Reply { number: refusal.number(), ..Reply::repeating(request) },
         }
     }
@@ -184,8 +185,8 @@ impl Desk {
         }
         self.check_unsignalled(me)?;
         self.check_standing(me, Standing::Active)?;
-        if !self.conflicts(me, request).is_empty() {
-            return Err(Refusal::Delayed);
+        if let Some(holder) = self.holder(me, request) {
+            return Ok(delayed_by(holder, request));
         }
         // The lock decides whose value is read, not the pending value.
         let (value, version) = if self.places[me].cell(number).write {
@@ -212,8 +213,8 @@ impl Desk {
         if item.version == u32::MAX {
             return Err(Refusal::VersionsSpent);
         }
-        if !self.conflicts(me, request).is_empty() {
-            return Err(Refusal::Delayed);
+        if let Some(holder) = self.holder(me, request) {
+            return Ok(delayed_by(holder, request));
         }
         self.places[me].cell_mut(number).write = true;
         self.items[number].pending = request.value;
@@ -224,8 +225,8 @@ impl Desk {
         let me = self.find(request.level, request.ticket)?;
         self.check_unsignalled(me)?;
         self.check_standing(me, Standing::Active)?;
-        if !self.conflicts(me, request).is_empty() {
-            return Err(Refusal::Delayed);
+        if let Some(holder) = self.holder(me, request) {
+            return Ok(delayed_by(holder, request));
         }
         for item in self.places[me].written() {
             let cell = self.places[me].cell_mut(item);
@@ -310,6 +311,11 @@ impl Desk {
         conflicts
     }
 
+    /// The conflict test: who holds the first of the locks in the way (CR 5).
+    fn holder(&self, me: usize, request: &Request) -> Option<&Place> {
+        self.conflicts(me, request).first().map(|&(_, place)| &self.places[place])
+    }
+
     fn check_unsignalled(&self, me: usize) -> Result<(), Refusal> {
         if self.places[me].signalled().is_empty() {
             Ok(())
@@ -324,6 +330,17 @@ impl Desk {
         } else {
             Err(Refusal::WrongTime)
         }
+    }
+}
+
+/// The reply of a delay: the value field carries the holder's ticket, the version field its level
+/// (CR 5).
+pub fn delayed_by(holder: &Place, request: &Request) -> Reply {
+    Reply {
+        number: Refusal::Delayed.number(),
+        value: holder.ticket,
+        version: holder.level.into(),
+        ..Reply::repeating(request)
     }
 }
 

@@ -118,6 +118,10 @@ impl Moment<'_> {
         stays(self.request, self.k)
     }
 
+    fn is_delayed(&self) -> bool {
+        self.number == Refusal::Delayed.number()
+    }
+
     fn stays_and_is_done(&self, operation: Operation) -> bool {
         self.stays() && self.number == 0 && self.request.is(operation)
     }
@@ -142,7 +146,7 @@ impl Moment<'_> {
 type Meets = fn(&Moment) -> bool;
 
 /// Each with the highest level at which it can be: nobody is above level 3.
-const MEETS: [(&str, u8, Meets); 6] = [
+const MEETS: [(&str, u8, Meets); 7] = [
     ("a struck request that was done", 2, |at| !at.stays() && at.number == 0),
     ("a done certify of what somebody above has read", 2, |at| {
         at.stays_and_is_done(Operation::Certify) && at.is_read_above()
@@ -153,7 +157,11 @@ const MEETS: [(&str, u8, Meets); 6] = [
     ("a done begin after a done begin above", 2, |at| {
         at.stays_and_is_done(Operation::Begin) && at.has_begun_above()
     }),
-    ("a delayed request that stays", 2, |at| at.stays() && at.number == Refusal::Delayed.number()),
+    ("a delayed request that stays", 2, |at| at.stays() && at.is_delayed()),
+    // The certifier is told who holds it, and not that somebody above reads it too (CR 5).
+    ("a delayed certify of what somebody above has read", 2, |at| {
+        at.stays() && at.is_delayed() && at.request.is(Operation::Certify) && at.is_read_above()
+    }),
     ("a struck request whose level byte is above 3", 3, |at| {
         !at.stays() && at.request.level >= LEVELS
     }),
@@ -227,7 +235,8 @@ mod tests {
         }
     }
 
-    /// Slip 1 shows in a reply alone; the others that a level below can notice show in the house.
+    /// Slips 1 and 15 show in a reply alone; the others that a level below can notice show in the
+    /// house.
     #[test]
     fn the_houses_show_what_a_level_below_can_notice() {
         for (number, (name, answer)) in (1..).zip(SLIPS) {

@@ -2,11 +2,12 @@
 //! on purpose: a desk that behaves but for one slip. The checks must find each of them, or they are
 //! not worth running.
 
-use crate::desk::{Desk, Place, Refusal, Standing, LEVELS, PLACES_PER_LEVEL};
+use crate::desk::{delayed_by, Cell, Desk, Place, Refusal, Standing, LEVELS, PLACES_PER_LEVEL};
 use crate::run::Answer;
 use crate::wire::{Operation, Reply, Request};
+use std::cmp::Reverse;
 
-pub const SLIPS: [(&str, Answer); 12] = [
+pub const SLIPS: [(&str, Answer); 19] = [
     ("tells the certifier how many readers were signalled", tells_count),
     ("delays a certify for a reader above", delays_for_reader_above),
     ("counts a transaction's own read lock against its certify", counts_own_read),
@@ -19,33 +20,59 @@ pub const SLIPS: [(&str, Answer); 12] = [
     ("counts the tickets of all levels with one counter", counts_tickets_together),
     ("begins while any of the 32 places is free", begins_in_any_place),
     ("looks a ticket up at seven places of its level", goes_round_seven),
+    ("names the holder at the highest place", names_highest_place),
+    ("names the asker itself, which has read what it wrote", names_asker),
+    ("names a reader above to a certifier", names_reader_above),
+    (
+        "tells the holder's level for its ticket and its ticket for its level",
+        swaps_ticket_and_level,
+    ),
+    ("names the holder at the lowest place on whatever item", looks_at_places_first),
+    ("takes the holder for one of the asker's level", tells_own_level),
+    ("names whoever has a lock on the item, in the way or not", names_any_lock),
 ];
-
-fn delayed(request: &Request) -> Reply {
-    Reply { number: Refusal::Delayed.number(), ..Reply::repeating(request) }
-}
 
 fn signals(desk: &Desk) -> usize {
     desk.places.iter().map(|place| place.signalled().len()).sum()
 }
 
-/// Answers as the desk does, but delays a certify when a place in the way reads its items.
-fn delay_certify_if(
+/// Who reads what a certifier has written, of the places that count: on the lowest item, at the
+/// lowest place.
+fn first_reader(desk: &Desk, request: &Request, counts: impl Fn(&Place) -> bool) -> Option<usize> {
+    let written = if request.is(Operation::Certify) { desk.written_by(request) } else { vec![] };
+    let reader = |item| desk.places.iter().position(|place| counts(place) && place.cell(item).read);
+    written.into_iter().find_map(reader)
+}
+
+/// Answers as the desk does, but delays a certify when one of the places that count reads its items.
+fn delay_certify_if(desk: &mut Desk, request: &Request, counts: impl Fn(&Place) -> bool) -> Reply {
+    let before = desk.clone();
+    let reply = desk.answer(request);
+    match first_reader(&before, request, counts) {
+        Some(holder) if reply.number == 0 => {
+            *desk = before;
+            delayed_by(&desk.places[holder], request)
+        }
+        _ => reply,
+    }
+}
+
+/// Answers as the desk does, but a delay names whom `named` gives for the asker's place, if anybody.
+fn name_instead(
     desk: &mut Desk,
     request: &Request,
-    is_in_the_way: impl Fn(&Place) -> bool,
+    named: impl Fn(&Desk, usize) -> Option<usize>,
 ) -> Reply {
-    let before = desk.clone();
-    let written = desk.written_by(request);
     let reply = desk.answer(request);
-    if request.is(Operation::Certify)
-        && reply.number == 0
-        && before.places.iter().any(|place| is_in_the_way(place) && place.reads_one_of(&written))
-    {
-        *desk = before;
-        return delayed(request);
+    let me = desk.find(request.level, request.ticket).ok().filter(|_| is_delay(&reply));
+    match me.and_then(|me| named(desk, me)) {
+        Some(holder) => delayed_by(&desk.places[holder], request),
+        None => reply,
     }
-    reply
+}
+
+fn is_delay(reply: &Reply) -> bool {
+    reply.number == Refusal::Delayed.number()
 }
 
 fn tells_count(desk: &mut Desk, request: &Request) -> Reply {
@@ -68,7 +95,7 @@ fn counts_own_read(desk: &mut Desk, request: &Request) -> Reply {
 
 fn converts_free_items(desk: &mut Desk, request: &Request) -> Reply {
     let reply = desk.answer(request);
-    if !request.is(Operation::Certify) || reply.number != Refusal::Delayed.number() {
+    if !request.is(Operation::Certify) || !is_delay(&reply) {
         return reply;
     }
     let Ok(me) = desk.find(request.level, request.ticket) else {
@@ -175,4 +202,53 @@ fn goes_round_seven(desk: &mut Desk, request: &Request) -> Reply {
         }
         _ => desk.answer(request),
     }
+}
+
+fn names_highest_place(desk: &mut Desk, request: &Request) -> Reply {
+    name_instead(desk, request, |desk, me| {
+        let conflicts = desk.conflicts(me, request).into_iter();
+        conflicts.max_by_key(|(item, place)| (Reverse(*item), *place)).map(|(_, place)| place)
+    })
+}
+
+fn names_asker(desk: &mut Desk, request: &Request) -> Reply {
+    name_instead(desk, request, |desk, _| {
+        first_reader(desk, request, |place| place.level == request.level)
+    })
+}
+
+fn names_reader_above(desk: &mut Desk, request: &Request) -> Reply {
+    let own = (request.level, request.ticket);
+    name_instead(desk, request, |desk, _| {
+        first_reader(desk, request, |place| (place.level, place.ticket) != own)
+    })
+}
+
+fn swaps_ticket_and_level(desk: &mut Desk, request: &Request) -> Reply {
+    let reply = desk.answer(request);
+    if is_delay(&reply) {
+        return Reply { value: reply.version, version: reply.value, ..reply };
+    }
+    reply
+}
+
+fn looks_at_places_first(desk: &mut Desk, request: &Request) -> Reply {
+    name_instead(desk, request, |desk, me| {
+        desk.conflicts(me, request).into_iter().map(|(_, place)| place).min()
+    })
+}
+
+fn tells_own_level(desk: &mut Desk, request: &Request) -> Reply {
+    let reply = desk.answer(request);
+    if is_delay(&reply) {
+        return Reply { version: request.level.into(), ..reply };
+    }
+    reply
+}
+
+fn names_any_lock(desk: &mut Desk, request: &Request) -> Reply {
+    name_instead(desk, request, |desk, me| {
+        let item = desk.conflicts(me, request).first()?.0;
+        (0..desk.places.len()).find(|&p| p != me && desk.places[p].cell(item) != Cell::default())
+    })
 }

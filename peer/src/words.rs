@@ -44,19 +44,23 @@ pub fn reply(reply: &Reply) -> String {
             format!("done: {} signalled, the lowest is item {}", reply.value, reply.item)
         }
         (0, _) => "done".to_string(),
-        (1, operation) => format!("1, delayed: {}; ask again later", conflict(operation)),
+        (1, operation) => {
+            let (ticket, level, lock) = (reply.value, reply.version, lock_in_the_way(operation));
+            format!(
+                "1, delayed: ticket {ticket} of level {level} holds it ({lock}); ask again later"
+            )
+        }
         (number, operation) => format!("{number}, refused: {}", reason(number, operation)),
     }
 }
 
-fn conflict(operation: Option<Operation>) -> &'static str {
+/// What the holder of a delay has, and on what.
+fn lock_in_the_way(operation: Option<Operation>) -> &'static str {
     match operation {
-        Some(Operation::Read) => "another transaction holds certify on the item",
-        Some(Operation::Write) => "another transaction holds write or certify on the item",
-        Some(Operation::Certify) => {
-            "another transaction of the level holds a read lock on an item this one has written"
-        }
-        _ => "a lock conflict",
+        Some(Operation::Read) => "a certify lock on the item",
+        Some(Operation::Write) => "a write or certify lock on the item",
+        Some(Operation::Certify) => "a read lock on an item this one has written",
+        _ => "a lock",
     }
 }
 
@@ -243,6 +247,17 @@ mod tests {
     fn unused_fields_are_named() {
         let odd = Request { operation: 1, level: 0, item: 0, ticket: 1, value: 9 };
         assert_eq!(request(&odd), "level 0 #1 reads item 0, with 9 in the unused value field");
+    }
+
+    #[test]
+    fn a_delay_says_who_holds_it() {
+        let delay = Reply { number: 1, ticket: 9, value: 3, version: 2, ..Reply::default() };
+        let words_for = |operation| reply(&Reply { operation, ..delay });
+        let lock = "a certify lock on the item";
+        let words = format!("1, delayed: ticket 3 of level 2 holds it ({lock}); ask again later");
+        assert_eq!(words_for(1), words);
+        assert!(words_for(2).contains(" holds it (a write or certify lock on the item)"));
+        assert!(words_for(3).contains(" holds it (a read lock on an item this one has written)"));
     }
 
     #[test]

@@ -62,15 +62,16 @@ fn the_peer_agrees_with_itself() {
 }
 
 /// How many slips there are; `wrong_usage_is_told` sees that none is left out here.
-const SLIPS: usize = 12;
+const SLIPS: usize = 19;
 
 /// Those by which a level below notices somebody above, with what `quiet` says of each: the level,
 /// the request and the fields.
-const NOTICED: [(usize, u8, &str, &str); 4] = [
+const NOTICED: [(usize, u8, &str, &str); 5] = [
     (1, 0, " certifies", "they differ in value (whole list: 6, struck list: 0)"),
     (2, 0, " certifies", "they differ in number (whole list: 1, struck list: 0)"),
     (10, 0, "begin at level 0", "they differ in ticket (whole list: 31, struck list: 1)"),
     (11, 2, "begin at level 2", "they differ in number (whole list: 11, struck list: 0)"),
+    (15, 0, " certifies", "they differ in value (whole list: 3, struck list: 13), version (whole"),
 ];
 
 #[test]
@@ -131,17 +132,18 @@ fn beside_shows_a_day_with_and_without_a_teacher() {
         "a day with a teacher marking and the same day without\nin a house with 3 items",
         "the whole list                                   the struck list: without levels above 0",
         "  1 begin at level 0                                 the same\n    00 00 00 00 01 00 00",
-        "  2 begin at level 2                                 struck\n    00 00 00 00 01 00 00",
+        "  3 begin at level 2                                 struck\n    00 00 00 00 01 00 00",
+        "00 00 00 00\n    1, delayed: ticket 2 of level 0 holds it",
         "00 00 00 00\n    2, refused: the transaction is signalled",
-        "01 00 00 00  00 01 01 00 03 00 00 00 08 00 00 00 01 00 00 00\n    done: value 8, ",
-        "11 requests stay, 10 were struck; every reply to those that stay is the same, byte for",
+        "01 00 00 00  00 01 01 00 04 00 00 00 08 00 00 00 01 00 00 00\n    done: value 8, ",
+        "15 requests stay, 10 were struck; every reply to those that stay is the same, byte for",
     ];
     assert_says(&["beside", "--day"], 0, &wanted);
     assert_says(&["beside", "--day", &format!("{PEER} run")], 0, &wanted);
     let wanted = [
-        "  6 level 0 #1 certifies                             NOT THE SAME",
+        " 10 level 0 #1 certifies                             NOT THE SAME",
         "they differ in value (whole list: 1, struck list: 0)",
-        "11 requests stay, 10 were struck; replies that are not the same: 1",
+        "15 requests stay, 10 were struck; replies that are not the same: 1",
     ];
     assert_says(&["beside", "--day", &format!("{PEER} slip 1")], 1, &wanted);
 }
@@ -290,7 +292,7 @@ fn guide_plays_recipes() {
 fn the_guide_of_the_desk_is_right_and_finds_slips() {
     let guide = concat!(env!("CARGO_MANIFEST_DIR"), "/../docs/GUIDE.md");
     assert_says(&["guide", guide], 0, &["every byte as the guide says"]);
-    for slip in [1, 2, 3, 5, 6] {
+    for slip in [1, 2, 3, 5, 6, 15, 16, 17, 18] {
         let program = format!("{PEER} slip {slip}");
         assert_says(&["guide", guide, &program], 1, &["GUIDE.md: line", "now is said:"]);
     }

@@ -1,20 +1,24 @@
 // The same turn in place: the house comes by value once, and each change is made where it lies.
 
 ghost use mathlib.Core.Path.{_≡_};
+ghost use Rattle.ruling.specs.Ruling.{changeOf};
 ghost use Rattle.desk.specs.Turn.{turned, answered};
 use crate::Served;
 use crate::bytes::least;
 use crate::bytes::put_reply;
 use crate::bytes::request_at;
+use house::Answer;
 use house::House;
 use house::Mark;
 use judge::judge;
 use parts::active;
 use parts::certified;
+use parts::delayed_by;
 use parts::left_free;
 use parts::next_ticket;
 use parts::reply_to;
 use ruling::Change;
+use ruling::Ruling;
 use ruling::View;
 use sweeps::certify_cells;
 use sweeps::clear_cells;
@@ -22,6 +26,17 @@ use sweeps::commit_items;
 use sweeps::drop_pending;
 use sweeps::has_claimed;
 use sweeps::mark_cell;
+
+// Only what is granted changes the house.
+fn change_of(ruling: Ruling) -> Change
+    ensures { λ r. ⌜ r ≡ changeOf ruling ⌝ }
+{
+    match ruling {
+        Ruling::Grant(_, change) => change,
+        Ruling::Wait(_) => Change::Nothing,
+        Ruling::Refuse(_) => Change::Nothing,
+    }
+}
 
 pub fn turn_in_place(h: House, requests: &[u8], replies: &mut [u8], most: usize) -> Served
     ensures { λ r. ⌜ (r ≡ turned h (now (requests .entry)) (now (replies .entry)) most)
@@ -54,10 +69,17 @@ pub fn turn_in_place(h: House, requests: &[u8], replies: &mut [u8], most: usize)
             pending,
         };
         let ruling = judge(view, &h.cells, q);
-        let answer = ruling.answer;
-        put_reply(replies, n * 16, reply_to(q, answer));
+        let at = n * 16;
+        match ruling {
+            Ruling::Refuse(number) => put_reply(replies, at, reply_to(q, Answer::Refused(number))),
+            Ruling::Wait(p) => {
+                let holder = h.places[p];
+                put_reply(replies, at, reply_to(q, delayed_by(holder, p)));
+            }
+            Ruling::Grant(answer, _) => put_reply(replies, at, reply_to(q, answer)),
+        }
         n += 1;
-        let change = ruling.change;
+        let change = change_of(ruling);
         match change {
             Change::Nothing => {}
             Change::Begin(l, me) => {

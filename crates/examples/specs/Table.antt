@@ -72,19 +72,19 @@ m7-abort = row (talk m6) (aborts 0 3) (says 0 5 0 3 0 0)
 abbrev m7 : Example
 m7 = shows (talk m7-abort) (begins 0) (says 0 0 0 9 0 0) (active 2 9 ∷ [])
 
--- "M8. Ticket 1 writes 7 to item 0; ticket 2 writing item 0 gets 1."
+-- "M8. Ticket 1 writes 7 to item 0; ticket 2 writing item 0 gets 1." The holder is ticket 1 of level 0 (CR 5)
 abbrev m8-first : Example
 m8-first = row usual (writes 0 1 0 7) (says 0 2 0 1 0 0)
 
 abbrev m8 : Example
-m8 = row (talk m8-first) (writes 0 2 0 8) (says 1 2 0 2 0 0)
+m8 = row (talk m8-first) (writes 0 2 0 8) (says 1 2 0 2 1 0)
 
--- "M9. After M8, ticket 2 reads item 0: done, value 0, version 0. Ticket 1's certify: 1."
+-- "M9. After M8, ticket 2 reads item 0: done, value 0, version 0. Ticket 1's certify: 1." The holder is ticket 2 of level 0
 abbrev m9-read : Example
 m9-read = row (talk m8) (reads 0 2 0) (says 0 1 0 2 0 0)
 
 abbrev m9 : Example
-m9 = row (talk m9-read) (certifies 0 1) (says 1 3 0 1 0 0)
+m9 = row (talk m9-read) (certifies 0 1) (says 1 3 0 1 2 0)
 
 -- "M10. After M9, ticket 2 aborts; ticket 1 certifies and commits. A new reader gets 7, version 1."
 abbrev m10 : Example

@@ -13,10 +13,8 @@ use lib.Dec.{eqb}
 use borrow.Author.Tests.{eqb-true, eqb-false, eq-eqb, ne-eqb}
 use Rattle.house.specs.declared.Mark.{Mark}
 use Rattle.house.specs.declared.Mark.the-variants.{Read, Write, Certify, Signalled}
-use Rattle.house.specs.Search.{any}
-use Rattle.house.specs.Cell.{weight, has, marked, unmarked, cellAt, withMark, mapCells, holds, anotherHolds, otherHolds}
+use Rattle.house.specs.Cell.{weight, has, marked, unmarked, cellAt, withMark, mapCells}
 use Rattle.house.proofs.Tests.{is, same, and-yes, and-no}
-use Rattle.house.proofs.Searches.{scan-same}
 use Rattle.house.proofs.Lists.{length-mapFrom, getD-mapFrom}
 
 -- the two marks are the same; at two marks by name it computes
@@ -152,10 +150,3 @@ has-withMark cells long n m p i j b a c =
       | inl e ↦ rw (e, cell-here cells long m p i b a, has-marked n m (cellAt cells p i), eq-eqb i i refl, and-yes (alike n m))
       | inr d ↦ rw (cell-elsewhere m cells p i p j a c (λ e. d), ne-eqb j i d, and-no (alike n m))
     ]
-
--- who has not the mark need not be told from the others
-pub others-only : (cells : List ℕ) (m : Mark) (me i : ℕ) → holds cells m me i ≡ false → otherHolds cells m me i ≡ any (λ p. holds cells m p i) 0 32
-unfolding otherHolds anotherHolds
-others-only cells m me i e =
-    scan-same _ _ _ _ 0 32
-    (λ p a b. elim (same p me) [ inl q ↦ rw (q, eq-eqb me me refl, e) | inr n ↦ rw (ne-eqb p me n) ])

@@ -12,15 +12,14 @@ use borrow.Author.Tests.{eq-eqb, ne-eqb, eqb-true, eqb-false, ltb-false, leb-fal
 use Rattle.house.specs.declared.Found.{Found}
 use Rattle.house.specs.declared.Found.the-variants.{At, Nobody}
 use Rattle.house.specs.declared.House.{House}
-use Rattle.house.specs.declared.Mark.the-variants.{Write}
 use Rattle.house.specs.declared.Request.{Request}
-use Rattle.house.specs.Search.{any, nobody, anyOf, distinct}
-use Rattle.house.specs.Cell.{holds}
+use Rattle.house.specs.Search.{nobody, anyOf, distinct}
 use Rattle.house.specs.Checks.{foremost, someApplies, testOf, before}
-use Rattle.house.specs.Rules.{asker, noLevel, usesItem, unusedSet, unknown, noItem, forbidden, blankSheet, stopped, untimely, wornOut, crowded, ticketless, delayed, refusals, checks, verdict, waitsAt}
-use Rattle.house.proofs.Tests.{is, clash, and-true, and-right-false, and-no, or-false, not-of}
+use Rattle.house.specs.House.{dominates, itemAt}
+use Rattle.house.specs.Rules.{read, write, _does_, asker, noLevel, usesItem, unusedSet, unknown, noItem, forbidden, blankSheet, stopped, untimely, wornOut, crowded, ticketless, delayed, refusals, checks, verdict}
+use Rattle.house.proofs.Tests.{is, clash, and-true, and-right-false, and-no, or-false, not-is, not-of}
+use Rattle.house.proofs.Levels.{dominates-itself}
 use Rattle.house.proofs.Operations.{OperationOf, operation-of}
-use Rattle.house.proofs.Searches.{scan-same, any-none}
 
 -- LISTS OF CHECKS
 
@@ -142,6 +141,20 @@ pub item-there : (h : House) (q : Request) → usesItem q ≡ true → noItem h 
 unfolding noItem
 item-there h q u e = there (h .count) (q .item) (rw u at e)
 
+-- an item that may be read or written is of a level that the asker's dominates
+pub allowed-below : (h : House) (q : Request) → usesItem q ≡ true → forbidden h q ≡ false → dominates (q .level) (itemAt (h .items) (q .item) .level) ≡ true
+unfolding forbidden
+allowed-below h q u e =
+    elim (is (q does read)) [
+      | inl r ↦ not-is _ (rw r at e)
+      | inr n ↦ let w : q does write ≡ true = rw n at u in rw (eqb-true (itemAt (h .items) (q .item) .level) (q .level) (not-is _ (rw (n, w) at e))) (dominates-itself (q .level))
+    ]
+
+-- no refusal has the number of the delay
+pub refusal-not-delay : (h : House) (q : Request) → eqb (foremost (refusals h q)) 1 ≡ false
+unfolding refusals
+refusal-not-delay h q = not-given (refusals h q) 1 (λ e. omega arith) refl
+
 -- the number of a request, from its refusals and its delay
 pub verdict-is : (h : House) (q : Request) → verdict h q ≡ cond (eqb (foremost (refusals h q)) 0) (cond (delayed h q) 1 0) (foremost (refusals h q))
 unfolding verdict checks refusals
@@ -165,8 +178,3 @@ pub asker-known : (h : House) (q : Request) → q .operation ≢ 0 → foremost 
 unfolding unknown
 asker-known h q o e =
     somebody (asker h q) (and-right-false (not (eqb (q .operation) 0)) _ (not-of _ (ne-eqb _ 0 o)) (clear h q e .known))
-
--- "With nothing written it is done at once."
-pub nothing-written : (cells : List ℕ) (me : ℕ) → any (holds cells Write me) 0 64 ≡ false → any (waitsAt cells me) 0 64 ≡ false
-unfolding waitsAt
-nothing-written cells me e = scan-same (waitsAt cells me) (holds cells Write me) _ _ 0 64 (λ i a b. rw (any-none (holds cells Write me) 0 64 e i a b)) ∙ e

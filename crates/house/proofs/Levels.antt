@@ -4,11 +4,10 @@ use Prim.Native.Nat.{ℕ}
 use native.Mathlib.Omega.{arith}
 use mathlib.Core.Path.{_≡_, refl}
 use mathlib.Core.Logic.{_≢_}
-use mathlib.Core.Bool.{true, false, not}
-use lib.Dec.{eqb}
-use borrow.Author.Tests.{eq-eqb, ne-eqb, eqb-true, leb-true, le-leb}
+use mathlib.Core.Bool.{true, false}
+use borrow.Author.Tests.{eq-eqb, ne-eqb, leb-true, le-leb}
 use Rattle.house.specs.House.{dominates, above}
-use Rattle.house.proofs.Tests.{and-intro, and-right-false, and-no, not-is, not-of}
+use Rattle.house.proofs.Tests.{and-intro, and-no, not-of}
 
 pub dominates-itself : (a : ℕ) → dominates a a ≡ true
 unfolding dominates
@@ -26,8 +25,3 @@ above-itself a = rw (eq-eqb a a refl) (and-no (dominates a a))
 pub above-intro : (a b : ℕ) → dominates a b ≡ true → a ≢ b → above a b ≡ true
 unfolding above
 above-intro a b d n = and-intro _ _ d (not-of _ (ne-eqb a b n))
-
--- and one that dominates and is not above is the same
-pub level-with : (a b : ℕ) → dominates a b ≡ true → above a b ≡ false → a ≡ b
-unfolding above
-level-with a b d n = eqb-true a b (not-is _ (and-right-false (dominates a b) (not (eqb a b)) d n))

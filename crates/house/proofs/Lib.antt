@@ -10,5 +10,6 @@ pub mod Holders
 pub mod Places
 pub mod Effects
 pub mod Checks
+pub mod Steps
 pub mod Openings
 pub mod Runs

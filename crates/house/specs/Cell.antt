@@ -47,14 +47,6 @@ holds cells m p i = has m (cellAt cells p i)
 unfoldable pub anotherHolds : List ℕ → Mark → ℕ → ℕ → ℕ → Bool
 anotherHolds cells m me i p = not (eqb p me) && holds cells m p i
 
--- some transaction but that at `me` has the mark on item i
-unfoldable pub otherHolds : List ℕ → Mark → ℕ → ℕ → Bool
-otherHolds cells m me i = any (anotherHolds cells m me i) 0 32
-
--- some other transaction of the same level has it: the places of that level are eight in a row
-unfoldable pub peerHolds : List ℕ → Mark → ℕ → ℕ → Bool
-peerHolds cells m me i = any (anotherHolds cells m me i) (me / 8 * 8) 8
-
 -- the transaction has a signalled cell; the lowest such item; how many there are
 unfoldable pub isSignalled : List ℕ → ℕ → Bool
 isSignalled cells me = any (holds cells Signalled me) 0 64

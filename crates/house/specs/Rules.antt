@@ -8,8 +8,9 @@ use mathlib.Core.List.{List, [], _∷_, _++_}
 use lib.ListN.{set}
 use lib.Dec.{eqb, ltb, leb}
 use Rattle.house.specs.declared.Answer.{Answer}
-use Rattle.house.specs.declared.Answer.the-variants.{Refused, Done, Ticket, Pair, Signals}
+use Rattle.house.specs.declared.Answer.the-variants.{Refused, Delayed, Done, Ticket, Pair, Signals}
 use Rattle.house.specs.declared.Found.{Found}
+use Rattle.house.specs.declared.Found.the-variants.{Nobody}
 use Rattle.house.specs.declared.House.{House}
 use Rattle.house.specs.declared.Item.{Item}
 use Rattle.house.specs.declared.Mark.the-variants.{Read, Write, Certify, Signalled}
@@ -17,9 +18,9 @@ use Rattle.house.specs.declared.Outcome.{Outcome}
 use Rattle.house.specs.declared.Reply.{Reply}
 use Rattle.house.specs.declared.Request.{Request}
 use Rattle.house.specs.declared.Standing.the-variants.{Active, Certified}
-use Rattle.house.specs.Search.{any, ifFound, nobody, mapFrom}
+use Rattle.house.specs.Search.{find, ifFound, nobody, findFirst, mapFrom}
 use Rattle.house.specs.Checks.{foremost}
-use Rattle.house.specs.Cell.{has, marked, unmarked, withMark, mapCells, holds, otherHolds, peerHolds, isSignalled, firstSignalled, countSignalled}
+use Rattle.house.specs.Cell.{has, marked, unmarked, withMark, mapCells, holds, anotherHolds, isSignalled, firstSignalled, countSignalled}
 use Rattle.house.specs.House.{dominates, above, levelOf, vacant, itemAt, pendingAt, placeAt, nextAt, withItems, withPending, withPlace, withNext, withCells, isActive, isCertified, seek, vacancy}
 
 -- "Operations: 0 begin, 1 read, 2 write, 3 certify, 4 commit, 5 abort, 6 ask."
@@ -118,22 +119,39 @@ crowded h q = q does begin && nobody (vacancy (h .places) (q .level))
 unfoldable pub ticketless : House → Request → Bool
 ticketless h q = q does begin && eqb (nextAt (h .next) (q .level)) 0
 
--- "another transaction of the same level holds a read lock" on item i, which is "written by this transaction"
-unfoldable pub waitsAt : List ℕ → ℕ → ℕ → Bool
-waitsAt cells me i = holds cells Write me i && peerHolds cells Read me i
+-- Whether the transaction at place p stands in the way of that at `me` on item i. Write: "another holds write or certify on the item"
+unfoldable pub anotherClaims : List ℕ → ℕ → ℕ → ℕ → Bool
+anotherClaims cells me i p = anotherHolds cells Write me i p || anotherHolds cells Certify me i p
 
--- read: "another transaction holds certify on the item"; write: "another holds write or certify on the item"; certify: on
--- any item
-unfoldable pub conflict : List ℕ → Request → ℕ → Bool
-conflict cells q me =
-    cond (q does read) (otherHolds cells Certify me (q .item))
-    (cond (q does write) (otherHolds cells Write me (q .item) || otherHolds cells Certify me (q .item))
-    (cond (q does certify) (any (waitsAt cells me) 0 64)
-    false))
+-- Certify: "another transaction of the same level holds a read lock"
+unfoldable pub peerReads : List ℕ → ℕ → ℕ → ℕ → Bool
+peerReads cells me i p = eqb (levelOf p) (levelOf me) && anotherHolds cells Read me i p
+
+-- and read: "another transaction holds certify on the item"
+unfoldable pub hinders : List ℕ → ℕ → ℕ → ℕ → ℕ → Bool
+hinders cells operation me i p =
+    cond (eqb operation read) (anotherHolds cells Certify me i p)
+    (cond (eqb operation write) (anotherClaims cells me i p)
+    (peerReads cells me i p))
+
+-- the items that a request asks for a lock on: its own or, at a certify, "any item written by this transaction"
+unfoldable pub wants : List ℕ → Request → ℕ → ℕ → Bool
+wants cells q me i = cond (usesItem q) (eqb i (q .item)) (q does certify && holds cells Write me i)
+
+-- "The conflict test now gives the holder. .. With several, take the lowest item, then the lowest place." (CR 5)
+unfoldable pub holderOn : List ℕ → Request → ℕ → ℕ → Found
+holderOn cells q me i = cond (wants cells q me i) (find (hinders cells (q .operation) me i) 0 32) Nobody
+
+unfoldable pub conflict : List ℕ → Request → ℕ → Found
+conflict cells q me = findFirst (holderOn cells q me) 0 64
+
+-- the place of the holder of what is asked for
+abbrev pub holder : House → Request → Found
+holder h q = ifFound (asker h q) (conflict (h .cells) q) Nobody
 
 -- 1: "delayed: a lock conflict; ask again later"
 unfoldable pub delayed : House → Request → Bool
-delayed h q = ifFound (asker h q) (conflict (h .cells) q) false
+delayed h q = not (nobody (holder h q))
 
 -- "Order of checks: 3, 4, 5, 6, 7, 8, 2, 9, 10, 11, 12, 1", with 15 "after 8 and before 2" (CR 1). First the refusals
 unfoldable pub refusals : House → Request → List (ℕ × Bool)
@@ -245,9 +263,11 @@ said q number item ticket value version = record { number = number; operation = 
 
 -- "Every reply repeats operation, item and ticket as they came, with value and version 0, except these done replies: begin
 -- carries the new ticket; read carries value and version; ask carries in the item field the lowest signalled item of the
--- asker and in the value field how many are signalled"
+-- asker and in the value field how many are signalled". "In a delay's reply the value field carries the holder's ticket and the
+-- version field its level" (CR 5)
 abbrev pub replied : Request → Answer → Reply
 replied q (Refused n) = said q n (q .item) (q .ticket) 0 0
+replied q (Delayed t l) = said q 1 (q .item) (q .ticket) t l
 replied q Done = said q 0 (q .item) (q .ticket) 0 0
 replied q (Ticket t) = said q 0 (q .item) t 0 0
 replied q (Pair v n) = said q 0 (q .item) (q .ticket) v n
@@ -281,9 +301,17 @@ performed h q =
     let others = ifFound (asker h q) (served h q) (outcome h q (Refused 6)) in
     cond (q does begin) begin′ others
 
+-- the holder at place p is named
+abbrev pub named : House → ℕ → Answer
+named h p = Delayed (placeAt (h .places) p .ticket) (levelOf p)
+
+-- the answer to a request with a number n other than 0; a delay without a holder is met by none
+unfoldable pub unserved : House → Request → ℕ → Answer
+unserved h q n = ifFound (cond (eqb n 1) (holder h q) Nobody) (named h) (Refused n)
+
 -- "Any number but 0 leaves the house as it was."
 unfoldable pub stepped : House → Request → Outcome
 stepped h q =
     let n = verdict h q in
     let done = performed h q in
-    cond (eqb n 0) done (outcome h q (Refused n))
+    cond (eqb n 0) done (outcome h q (unserved h q n))

@@ -67,6 +67,8 @@ pub enum Found {
 // What a request is answered; specs/Rules.antt (`replied`) gives the number and the values of each.
 pub enum Answer {
     Refused(u8),
+    // the holder's ticket, and its level
+    Delayed(u32, u32),
     Done,
     Ticket(u32),
     Pair(u32, u32),

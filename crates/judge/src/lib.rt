@@ -10,7 +10,7 @@ ghost use Prim.Native.Nat.{_+_, _*_, _<_};
 ghost use lib.Dec.{leb};
 ghost use Rattle.house.specs.House.{dominates, vacancy};
 ghost use Rattle.house.specs.Rules.{noOperation, noLevel, unusedSet, readAnswer, askAnswer};
-ghost use Rattle.ruling.specs.Ruling.{refusal, grant};
+ghost use Rattle.ruling.specs.declared.Ruling.the-variants.{Grant};
 ghost use Rattle.ruling.specs.Judged.{Judged, beginRuled, readRuled, writeRuled, certifyRuled, commitRuled, knownRuled};
 use house::Answer;
 use house::Found;
@@ -28,10 +28,11 @@ use ruling::Change;
 use ruling::Ruling;
 use ruling::View;
 use scans::count_signalled;
+use scans::first_awaited;
 use scans::first_signalled;
 use scans::holds_mark;
 use scans::is_signalled;
-use scans::must_wait;
+use scans::lowest_holder;
 use scans::other_claims;
 use scans::other_holds;
 
@@ -55,19 +56,11 @@ fn unused_set(q: Request) -> bool
         | ((q.operation != 2) & (q.value != 0))
 }
 
-fn refuse(number: u8) -> Ruling
-    ensures { λ r. ⌜ r ≡ refusal number ⌝ }
+// Made here, and not where it is returned, a grant is stored in fewer pieces: six to ten instructions less for a done request.
+fn grant(answer: Answer, change: Change) -> Ruling
+    ensures { λ r. ⌜ r ≡ Grant answer change ⌝ }
 {
-    Ruling {
-        answer: Answer::Refused(number),
-        change: Change::Nothing,
-    }
-}
-
-fn allow(answer: Answer, change: Change) -> Ruling
-    ensures { λ r. ⌜ r ≡ grant answer change ⌝ }
-{
-    Ruling { answer, change }
+    Ruling::Grant(answer, change)
 }
 
 // The house has 64 rows, whatever its count says.
@@ -110,14 +103,14 @@ fn judge_begin(eight: [Place; 8], ticket: u32, level: usize) -> Ruling
     ensures { λ r. ⌜ r ≡ beginRuled (vacancy eight 0) ticket level ⌝ }
 {
     let Found::At(k) = lowest_free(eight) else {
-        return refuse(11);
+        return Ruling::Refuse(11);
     };
     if ticket == 0 {
-        return refuse(12);
+        return Ruling::Refuse(12);
     }
     let first = level * 8;
     let me = first + k;
-    allow(Answer::Ticket(ticket), Change::Begin(level, me))
+    grant(Answer::Ticket(ticket), Change::Begin(level, me))
 }
 
 fn judge_read(case: Case, cells: &[u8; 2048]) -> Ruling
@@ -131,21 +124,21 @@ fn judge_read(case: Case, cells: &[u8; 2048]) -> Ruling
     let reader = case.me;
     let i = q.item as usize;
     if lacks_item(case.count, i) {
-        return refuse(7);
+        return Ruling::Refuse(7);
     }
     if does_not_dominate(q.level, x.level) {
-        return refuse(8);
+        return Ruling::Refuse(8);
     }
     if is_signalled(cells, reader) {
-        return refuse(2);
+        return Ruling::Refuse(2);
     }
     if is_certified(standing) {
-        return refuse(9);
+        return Ruling::Refuse(9);
     }
     if other_holds(cells, Mark::Certify, reader, i) {
-        return refuse(1);
+        return Ruling::Wait(lowest_holder(cells, 1, reader, i));
     }
-    allow(
+    grant(
         answer_read(cells, x, case.pending, reader, i),
         Change::Read(reader, i),
     )
@@ -162,27 +155,27 @@ fn judge_write(case: Case, cells: &[u8; 2048]) -> Ruling
     let writer = case.me;
     let i = q.item as usize;
     if lacks_item(case.count, i) {
-        return refuse(7);
+        return Ruling::Refuse(7);
     }
     if x.level != q.level {
-        return refuse(8);
+        return Ruling::Refuse(8);
     }
     if q.value == 0 {
-        return refuse(15);
+        return Ruling::Refuse(15);
     }
     if is_signalled(cells, writer) {
-        return refuse(2);
+        return Ruling::Refuse(2);
     }
     if is_certified(standing) {
-        return refuse(9);
+        return Ruling::Refuse(9);
     }
     if 4294967295 <= x.version {
-        return refuse(10);
+        return Ruling::Refuse(10);
     }
     if other_claims(cells, writer, i) {
-        return refuse(1);
+        return Ruling::Wait(lowest_holder(cells, 2, writer, i));
     }
-    allow(Answer::Done, Change::Write(writer, i, q.value))
+    grant(Answer::Done, Change::Write(writer, i, q.value))
 }
 
 fn judge_certify(case: Case, cells: &[u8; 2048]) -> Ruling
@@ -193,15 +186,16 @@ fn judge_certify(case: Case, cells: &[u8; 2048]) -> Ruling
     let standing = seat.standing;
     let certifier = case.me;
     if is_signalled(cells, certifier) {
-        return refuse(2);
+        return Ruling::Refuse(2);
     }
     if is_certified(standing) {
-        return refuse(9);
+        return Ruling::Refuse(9);
     }
-    if must_wait(cells, certifier) {
-        return refuse(1);
+    let awaited = first_awaited(cells, certifier);
+    if let Found::At(i) = awaited {
+        return Ruling::Wait(lowest_holder(cells, 3, certifier, i));
     }
-    allow(Answer::Done, Change::Certify(certifier))
+    grant(Answer::Done, Change::Certify(certifier))
 }
 
 fn judge_commit(case: Case, cells: &[u8; 2048]) -> Ruling
@@ -212,12 +206,12 @@ fn judge_commit(case: Case, cells: &[u8; 2048]) -> Ruling
     let standing = seat.standing;
     let committer = case.me;
     if is_signalled(cells, committer) {
-        return refuse(2);
+        return Ruling::Refuse(2);
     }
     if is_active(standing) {
-        return refuse(9);
+        return Ruling::Refuse(9);
     }
-    allow(Answer::Done, Change::End(committer, true))
+    grant(Answer::Done, Change::End(committer, true))
 }
 
 // Past the checks 3, 4, 5 and 6.
@@ -232,8 +226,8 @@ fn judge_known(case: Case, cells: &[u8; 2048]) -> Ruling
         2 => judge_write(case, cells),
         3 => judge_certify(case, cells),
         4 => judge_commit(case, cells),
-        5 => allow(Answer::Done, Change::End(case.me, false)),
-        _ => allow(answer_ask(cells, case.me), Change::Nothing),
+        5 => grant(Answer::Done, Change::End(case.me, false)),
+        _ => grant(answer_ask(cells, case.me), Change::Nothing),
     }
 }
 
@@ -241,13 +235,13 @@ pub fn judge(view: View, cells: &[u8; 2048], q: Request) -> Ruling
     ensures { λ r. ⌜ Judged view (now (cells .entry)) q r ⌝ }
 {
     if no_operation(q) {
-        return refuse(3);
+        return Ruling::Refuse(3);
     }
     if no_level(q) {
-        return refuse(4);
+        return Ruling::Refuse(4);
     }
     if unused_set(q) {
-        return refuse(5);
+        return Ruling::Refuse(5);
     }
     let level = q.level as usize;
     let eight = view.eight;
@@ -255,7 +249,7 @@ pub fn judge(view: View, cells: &[u8; 2048], q: Request) -> Ruling
         return judge_begin(eight, view.ticket, level);
     }
     let Found::At(k) = lookup(eight, q.ticket) else {
-        return refuse(6);
+        return Ruling::Refuse(6);
     };
     let seat = eight[k];
     let row = view.row;

@@ -2,12 +2,14 @@
 // compiled to a few wide instructions.
 
 ghost use mathlib.Core.Path.{_≡_};
-ghost use mathlib.Core.Bool.{_||_};
-ghost use Prim.Native.Nat.{_<_};
-ghost use Rattle.house.specs.Search.{any};
-ghost use Rattle.house.specs.Cell.{holds, anotherHolds, otherHolds, peerHolds, isSignalled, firstSignalled, countSignalled};
-ghost use Rattle.house.specs.Rules.{waitsAt};
+ghost use mathlib.Core.Bool.{true, _||_};
+ghost use Prim.Native.Nat.{_*_, _/_, _<_};
+ghost use Rattle.house.specs.Search.{any, find};
+ghost use Rattle.house.specs.Cell.{holds, anotherHolds, isSignalled, firstSignalled, countSignalled};
+ghost use Rattle.house.specs.Rules.{anotherClaims, hinders};
+ghost use Rattle.house.specs.declared.Found.the-variants.{At};
 ghost use Rattle.house.specs.declared.Mark.the-variants.{Write, Certify};
+ghost use Rattle.ruling.specs.Judged.{lowestHolder, waitsAt};
 use house::Found;
 use house::Mark;
 use parts::has_mark;
@@ -32,7 +34,7 @@ fn another_holds(cells: &[u8; 2048], m: Mark, me: usize, i: usize, p: usize) -> 
 // from one place, so that the judge stays one piece of code.
 pub(crate) fn other_holds(cells: &[u8; 2048], m: Mark, me: usize, i: usize) -> bool
     requires { ⌜ (me < 32) × (i < 64) ⌝ }
-    ensures { λ r. ⌜ r ≡ otherHolds (now (cells .entry)) m me i ⌝ }
+    ensures { λ r. ⌜ r ≡ any (anotherHolds (now (cells .entry)) m me i) 0 32 ⌝ }
 {
     if holds_mark(cells, m, me, i) {
         some_other_holds(cells, m, me, i)
@@ -54,7 +56,7 @@ fn anybody_holds(cells: &[u8; 2048], m: Mark, i: usize) -> bool
 
 fn some_other_holds(cells: &[u8; 2048], m: Mark, me: usize, i: usize) -> bool
     requires { ⌜ i < 64 ⌝ }
-    ensures { λ r. ⌜ r ≡ otherHolds (now (cells .entry)) m me i ⌝ }
+    ensures { λ r. ⌜ r ≡ any (anotherHolds (now (cells .entry)) m me i) 0 32 ⌝ }
 {
     let mut hit = false;
     for p in 0..32 {
@@ -66,7 +68,7 @@ fn some_other_holds(cells: &[u8; 2048], m: Mark, me: usize, i: usize) -> bool
 // Another claims item i: it holds write or certify.
 pub(crate) fn other_claims(cells: &[u8; 2048], me: usize, i: usize) -> bool
     requires { ⌜ (me < 32) × (i < 64) ⌝ }
-    ensures { λ r. ⌜ r ≡ (otherHolds (now (cells .entry)) Write me i || otherHolds (now (cells .entry)) Certify me i) ⌝ }
+    ensures { λ r. ⌜ r ≡ any (anotherClaims (now (cells .entry)) me i) 0 32 ⌝ }
 {
     if claims(cells, me, i) {
         some_other_claims(cells, me, i)
@@ -95,7 +97,7 @@ fn anybody_claims(cells: &[u8; 2048], i: usize) -> bool
 
 fn some_other_claims(cells: &[u8; 2048], me: usize, i: usize) -> bool
     requires { ⌜ i < 64 ⌝ }
-    ensures { λ r. ⌜ r ≡ (otherHolds (now (cells .entry)) Write me i || otherHolds (now (cells .entry)) Certify me i) ⌝ }
+    ensures { λ r. ⌜ r ≡ any (anotherClaims (now (cells .entry)) me i) 0 32 ⌝ }
 {
     let mut hit = false;
     for p in 0..32 {
@@ -106,14 +108,15 @@ fn some_other_claims(cells: &[u8; 2048], me: usize, i: usize) -> bool
 
 fn another_claims(cells: &[u8; 2048], me: usize, i: usize, p: usize) -> bool
     requires { ⌜ (p < 32) × (i < 64) ⌝ }
-    ensures { λ r. ⌜ r ≡ (anotherHolds (now (cells .entry)) Write me i p || anotherHolds (now (cells .entry)) Certify me i p) ⌝ }
+    ensures { λ r. ⌜ r ≡ anotherClaims (now (cells .entry)) me i p ⌝ }
 {
     another_holds(cells, Mark::Write, me, i, p) | another_holds(cells, Mark::Certify, me, i, p)
 }
 
+// The places of a level are eight in a row.
 fn peer_holds(cells: &[u8; 2048], m: Mark, me: usize, i: usize) -> bool
     requires { ⌜ (me < 32) × (i < 64) ⌝ }
-    ensures { λ r. ⌜ r ≡ peerHolds (now (cells .entry)) m me i ⌝ }
+    ensures { λ r. ⌜ r ≡ any (anotherHolds (now (cells .entry)) m me i) (me / 8 * 8) 8 ⌝ }
 {
     let from = me / 8 * 8;
     let mut hit = false;
@@ -130,20 +133,44 @@ fn waits_at(cells: &[u8; 2048], me: usize, i: usize) -> bool
     holds_mark(cells, Mark::Write, me, i) && peer_holds(cells, Mark::Read, me, i)
 }
 
-// "With nothing written it is done at once."
-pub(crate) fn must_wait(cells: &[u8; 2048], me: usize) -> bool
+// The lowest item at which a certify has to wait. "With nothing written it is done at once."
+pub(crate) fn first_awaited(cells: &[u8; 2048], me: usize) -> Found
     requires { ⌜ me < 32 ⌝ }
-    ensures { λ r. ⌜ r ≡ any (waitsAt (now (cells .entry)) me) 0 64 ⌝ }
+    ensures { λ r. ⌜ r ≡ find (waitsAt (now (cells .entry)) me) 0 64 ⌝ }
 {
     if !holds_any(cells, Mark::Write, me) {
-        return false;
+        return Found::Nobody;
     }
     for i in 0..64 {
         if waits_at(cells, me, i) {
-            return true;
+            return Found::At(i);
         }
     }
-    false
+    Found::Nobody
+}
+
+// The lowest place that stands in the way. It is looked for where a scan has said that there is one: a done request pays nothing for it,
+// and the search needs no end.
+pub(crate) fn lowest_holder(cells: &[u8; 2048], operation: u8, me: usize, i: usize) -> usize
+    requires { ⌜ (i < 64) × (any (hinders (now cells) operation me i) 0 32 ≡ true) ⌝ }
+    ensures { λ r. ⌜ At r ≡ lowestHolder (now (cells .entry)) operation me i ⌝ }
+{
+    let mut p = 0;
+    while !hinders(cells, operation, me, i, p) {
+        p += 1;
+    }
+    p
+}
+
+fn hinders(cells: &[u8; 2048], operation: u8, me: usize, i: usize, p: usize) -> bool
+    requires { ⌜ (p < 32) × (i < 64) ⌝ }
+    ensures { λ r. ⌜ r ≡ hinders (now (cells .entry)) operation me i p ⌝ }
+{
+    match operation {
+        1 => another_holds(cells, Mark::Certify, me, i, p),
+        2 => another_claims(cells, me, i, p),
+        _ => (p / 8 == me / 8) & another_holds(cells, Mark::Read, me, i, p),
+    }
 }
 
 pub(crate) fn is_signalled(cells: &[u8; 2048], me: usize) -> bool

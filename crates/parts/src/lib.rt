@@ -5,11 +5,14 @@ mod rows;
 
 ghost use mathlib.Core.Path.{_≡_};
 ghost use Prim.Native.Nat.{_%_};
+ghost use Rattle.house.specs.declared.Answer.the-variants.{Delayed};
 ghost use Rattle.house.specs.Search.{any};
 ghost use Rattle.house.specs.Cell.{weight, has, marked, unmarked, holds};
+ghost use Rattle.house.specs.House.{levelOf};
 ghost use Rattle.house.specs.Rules.{grown, ticketAfter, said, replied};
 use house::Answer;
 use house::Mark;
+use house::Place;
 use house::Reply;
 use house::Request;
 pub use rows::active;
@@ -74,6 +77,14 @@ pub fn next_ticket(ticket: u32) -> u32
     if ticket < 4294967295 { ticket + 1 } else { 0 }
 }
 
+// A delay names its holder, by the row and the number, modulo 32, of its place.
+pub fn delayed_by(holder: Place, p: usize) -> Answer
+    ensures { λ r. ⌜ r ≡ Delayed (holder .ticket) (levelOf (p % 32)) ⌝ }
+{
+    let level = (p % 32 / 8) as u32;
+    Answer::Delayed(holder.ticket, level)
+}
+
 fn say(q: Request, number: u8, item: u16, ticket: u32, value: u32, version: u32) -> Reply
     ensures { λ r. ⌜ r ≡ said q number item ticket value version ⌝ }
 {
@@ -92,6 +103,7 @@ pub fn reply_to(q: Request, answer: Answer) -> Reply
 {
     match answer {
         Answer::Refused(number) => say(q, number, q.item, q.ticket, 0, 0),
+        Answer::Delayed(holder, level) => say(q, 1, q.item, q.ticket, holder, level),
         Answer::Done => say(q, 0, q.item, q.ticket, 0, 0),
         Answer::Ticket(ticket) => say(q, 0, q.item, ticket, 0, 0),
         Answer::Pair(value, version) => say(q, 0, q.item, q.ticket, value, version),

@@ -1,31 +1,33 @@
--- Two houses that are alike up to k give a request of a level up to k the same number: each test looks only at what is alike. The law of
--- the house is needed for the delay alone.
+-- Two houses that are alike up to k refuse a request of a level up to k alike, and the same one holds what it asks for: each test looks only
+-- at what is alike. The law of the house is needed for the holder alone.
 -- Assumes nothing.
-use Prim.Native.Nat.{ℕ, _*_, _/_, _<_}
+use Prim.Native.Nat.{ℕ, _*_, _<_}
 use native.Mathlib.Omega.{arith}
-use mathlib.Core.Path.{_≡_, refl, sym, ap, ap₂, _∙_}
+use mathlib.Core.Path.{_≡_, refl, sym, ap, _∙_}
 use mathlib.Core.Logic.{inl, inr}
 use mathlib.Core.Bool.{Bool, true, false, _&&_, _||_, not, cond}
 use mathlib.Core.List.{List, [], _∷_}
 use lib.Dec.{eqb, leb}
-use borrow.Author.Tests.{eqb-true}
+use borrow.Author.Tests.{eqb-true, ne-eqb}
 use Rattle.house.specs.declared.Found.{Found}
 use Rattle.house.specs.declared.Found.the-variants.{At, Nobody}
 use Rattle.house.specs.declared.House.{House}
 use Rattle.house.specs.declared.Mark.{Mark}
 use Rattle.house.specs.declared.Mark.the-variants.{Read, Write, Certify, Signalled}
 use Rattle.house.specs.declared.Request.{Request}
-use Rattle.house.specs.Search.{any, ifFound, nobody}
-use Rattle.house.specs.Cell.{has, cellAt, holds, anotherHolds, otherHolds, peerHolds, isSignalled}
+use Rattle.house.specs.Search.{ifFound, nobody}
+use Rattle.house.specs.Cell.{has, cellAt, holds, anotherHolds, isSignalled}
 use Rattle.house.specs.House.{vacant, dominates, levelOf, itemAt, placeAt, freeAt, isActive, isCertified, hasTicket, seek, vacancy}
 use Rattle.house.specs.Checks.{foremost}
-use Rattle.house.specs.Rules.{begin, read, write, certify, commit, _does_, asker, usesItem, unknown, noItem, forbidden, stopped, untimely, wornOut, crowded, ticketless, waitsAt, conflict, delayed, refusals, verdict}
-use Rattle.house.proofs.Tests.{is, clash, refuted, or-false, or-right, not-is}
-use Rattle.house.proofs.Searches.{scan-same, round-same}
+use Rattle.house.specs.Rules.{begin, read, write, certify, commit, _does_, asker, usesItem, unknown, noItem, forbidden, stopped, untimely, wornOut, crowded, ticketless, anotherClaims, peerReads, hinders, wants, holderOn, conflict, holder, refusals}
+use Rattle.house.proofs.Tests.{is, same, clash, refuted, and-true, or-false, or-right}
+use Rattle.house.proofs.Searches.{scan-same, round-same, first-same}
+use Rattle.house.proofs.Steps.{holder-at}
+use Rattle.house.proofs.Holders.{hinders-claims, conflict-at}
 use Rattle.house.proofs.Places.{seek-at}
 use Rattle.house.proofs.Levels.{dominates-on}
-use Rattle.house.proofs.Checks.{Clear, clear, level-there, item-there, verdict-is}
-use Rattle.reach.proofs.Law.{held, held-write, held-certify, Law, same-count}
+use Rattle.house.proofs.Checks.{Clear, level-there, item-there, allowed-below}
+use Rattle.reach.proofs.Law.{held, held-write, held-certify, Law, claimed-below, same-count}
 use Rattle.quiet.specs.Alike.{stays, Alike}
 use Rattle.quiet.proofs.Alike.{level-alike}
 
@@ -61,25 +63,24 @@ module _ (k : ℕ) {h g : House} (A : Alike k h g) where
     unfolding isSignalled
     signalled-alike = scan-same _ _ _ _ 0 64 (λ i x y. mark-alike Signalled i (omega arith))
 
-    peer-alike : (i : ℕ) → i < 64 → peerHolds (h .cells) Read me i ≡ peerHolds (g .cells) Read me i
-    unfolding peerHolds anotherHolds holds
-    peer-alike i a =
-        scan-same _ _ _ _ (me / 8 * 8) 8
-        (λ p x y. let e : levelOf p ≡ levelOf me = omega arith in ap (λ c. not (eqb p me) && has Read c) (A .cells p i (omega arith) a (rw e d)))
+    -- who reads at my level
+    peer-alike : (i p : ℕ) → i < 64 → p < 32 → peerReads (h .cells) me i p ≡ peerReads (g .cells) me i p
+    unfolding peerReads anotherHolds holds
+    peer-alike i p a b =
+        elim (same (levelOf p) (levelOf me)) [
+          | inl e ↦ ap (λ c. eqb (levelOf p) (levelOf me) && (not (eqb p me) && has Read c)) (A .cells p i b a (rw e d))
+          | inr n ↦ rw (ne-eqb _ _ n)
+        ]
 
-    waits-alike : any (waitsAt (h .cells) me) 0 64 ≡ any (waitsAt (g .cells) me) 0 64
-    unfolding waitsAt
-    waits-alike = scan-same _ _ _ _ 0 64 (λ i x y. ap₂ _&&_ (mark-alike Write i (omega arith)) (peer-alike i (omega arith)))
+    -- what a request asks for a lock on
+    wants-alike : (q : Request) (i : ℕ) → i < 64 → wants (h .cells) q me i ≡ wants (g .cells) q me i
+    unfolding wants
+    wants-alike q i a = ap (λ w. cond (usesItem q) (eqb i (q .item)) (q does certify && w)) (mark-alike Write i a)
 
   module _ (q : Request) (d : stays k q ≡ true) where
     -- an item that may be read or written is of a level up to k
     pub item-seen : usesItem q ≡ true → forbidden h q ≡ false → dominates k (itemAt (h .items) (q .item) .level) ≡ true
-    unfolding forbidden
-    item-seen u e =
-        elim (is (q does read)) [
-          | inl r ↦ dominates-on k (q .level) _ d (not-is _ (rw r at e))
-          | inr n ↦ let w : q does write ≡ true = rw n at u in rw (eqb-true (itemAt (h .items) (q .item) .level) (q .level) (not-is _ (rw (n, w) at e))) d
-        ]
+    item-seen u e = dominates-on k (q .level) _ d (allowed-below h q u e)
 
     module _ (b : q .level < 4) where
       pub asker-alike : asker h q ≡ asker g q
@@ -149,10 +150,10 @@ module _ (k : ℕ) {h g : House} (A : Alike k h g) where
         (λ c11. check 12 (ticketless-alike b)
         (λ c12. none))))))))))))
 
-    refusals-alike : foremost (refusals h q) ≡ foremost (refusals g q)
+    pub refusals-alike : foremost (refusals h q) ≡ foremost (refusals g q)
     refusals-alike = agreed refusals-agree
 
-  -- and the delay
+  -- and the holder
   module _ (L : Law h) (M : Law g) where
     -- on an item of a level up to k nobody above k has a write or certify lock: those are at the item's level
     module _ (m : Mark) (writes : (c : ℕ) → has m c ≡ true → held c ≡ true) (i : ℕ) (a : i < 64) (d : dominates k (itemAt (h .items) i .level) ≡ true) where
@@ -166,30 +167,59 @@ module _ (k : ℕ) {h g : House} (A : Alike k h g) where
             | inr n ↦ unheld L refl p b n ∙ sym (unheld M (level-alike A i) p b n)
           ]
 
-      other-alike : (me : ℕ) → otherHolds (h .cells) m me i ≡ otherHolds (g .cells) m me i
-      unfolding otherHolds anotherHolds holds
-      other-alike me = scan-same _ _ _ _ 0 32 (λ p x y. ap (λ b. not (eqb p me) && b) (held-alike p (omega arith)))
+      other-alike : (me p : ℕ) → p < 32 → anotherHolds (h .cells) m me i p ≡ anotherHolds (g .cells) m me i p
+      unfolding anotherHolds holds
+      other-alike me p b = ap (λ y. not (eqb p me) && y) (held-alike p b)
 
     module _ (q : Request) (d : stays k q ≡ true) where
-      conflict-alike : Clear h q → (me : ℕ) → me < 32 → dominates k (levelOf me) ≡ true → conflict (h .cells) q me ≡ conflict (g .cells) q me
-      unfolding conflict
-      conflict-alike c me m low =
-          elim (is (usesItem q)) [
-            | inl u ↦
-                let i = item-there h q u (c .present) .1 in
-                let s = item-seen q d u (c .allowed) in
-                rw (other-alike Certify held-certify (q .item) i s me, other-alike Write held-write (q .item) i s me, waits-alike me m low)
-            | inr n ↦ let none = or-false (q does read) (q does write) n in rw (none .0, none .1, waits-alike me m low)
-          ]
+      -- a transaction of a level up to k asks, and what it asks for is, of a read and a write, on an item that may be seen
+      module _ (c : Clear h q) (me : ℕ) (m : me < 32) (low : dominates k (levelOf me) ≡ true) where
+        wanted-seen : (i : ℕ) → wants (h .cells) q me i ≡ true → usesItem q ≡ true → dominates k (itemAt (h .items) i .level) ≡ true
+        unfolding wants
+        wanted-seen i w u = rw (eqb-true i (q .item) (rw u at w)) (item-seen q d u (c .allowed))
 
-      delayed-alike : Clear h q → delayed h q ≡ delayed g q
-      unfolding delayed
-      delayed-alike c = by-asker q d (c .level) (conflict (h .cells) q) (conflict (g .cells) q) false (conflict-alike c)
+        -- who stands in its way is the same, and at a level up to k
+        module _ (i p : ℕ) (a : i < 64) (b : p < 32) (w : wants (h .cells) q me i ≡ true) where
+          hinders-alike : hinders (h .cells) (q .operation) me i p ≡ hinders (g .cells) (q .operation) me i p
+          unfolding hinders anotherClaims
+          hinders-alike =
+              elim (is (usesItem q)) [
+                | inl u ↦ let s = wanted-seen i w u in rw (other-alike Certify held-certify i a s me p b, other-alike Write held-write i a s me p b, peer-alike me m low i p a b)
+                | inr n ↦ let none = or-false (q does read) (q does write) n in rw (none .0, none .1, peer-alike me m low i p a b)
+              ]
 
-      pub verdict-alike : verdict h q ≡ verdict g q
-      verdict-alike =
-          rw (verdict-is h q, verdict-is g q, ← refusals-alike q d)
-          (elim (is (eqb (foremost (refusals h q)) 0)) [
-            | inl z ↦ rw (delayed-alike (clear h q (eqb-true _ 0 z)))
-            | inr n ↦ rw n
-          ])
+          hinders-seen : hinders (h .cells) (q .operation) me i p ≡ true → dominates k (levelOf p) ≡ true
+          unfolding hinders peerReads
+          hinders-seen y =
+              elim (is (usesItem q)) [
+                | inl u ↦ claimed-below L k me p i b a (wanted-seen i w u) (hinders-claims (h .cells) q me i p u y)
+                | inr n ↦
+                    let none = or-false (q does read) (q does write) n in
+                    let l : levelOf p ≡ levelOf me = eqb-true _ _ (and-true (eqb (levelOf p) (levelOf me)) _ (rw (none .0, none .1) at y) .0) in
+                    rw l low
+              ]
+
+        on-alike : (i : ℕ) → i < 64 → holderOn (h .cells) q me i ≡ holderOn (g .cells) q me i
+        unfolding holderOn
+        on-alike i a =
+            let e = wants-alike me m low q i a in
+            elim (is (wants (h .cells) q me i)) [
+              | inl w ↦ rw (w, sym e ∙ w) (scan-same _ _ _ _ 0 32 (λ p x y. hinders-alike i p a (omega arith) w))
+              | inr w ↦ rw (w, sym e ∙ w)
+            ]
+
+        conflict-alike : conflict (h .cells) q me ≡ conflict (g .cells) q me
+        unfolding conflict
+        conflict-alike = first-same _ _ 0 64 (λ i x y. on-alike i (omega arith))
+
+        conflict-seen : (p : ℕ) → conflict (h .cells) q me ≡ At p → (p < 32) × (dominates k (levelOf p) ≡ true)
+        conflict-seen p e = let H = conflict-at (h .cells) q me p e in (H .place, hinders-seen (H .item) p (H .row) (H .place) (H .wanted) (H .by))
+
+      pub holder-alike : Clear h q → holder h q ≡ holder g q
+      holder-alike c = by-asker q d (c .level) (conflict (h .cells) q) (conflict (g .cells) q) Nobody (conflict-alike c)
+
+      pub holder-seen : Clear h q → (p : ℕ) → holder h q ≡ At p → (p < 32) × (dominates k (levelOf p) ≡ true)
+      holder-seen c p e =
+          let w = holder-at (asker h q) (conflict (h .cells) q) p e in
+          let s = seek-at (h .places) (q .level) (q .ticket) (w .0) (c .level) (w .1) .within in
+          conflict-seen c (w .0) (s .place) (rw (s .level) d) p (w .2)

@@ -4,7 +4,7 @@ use Prim.Native.Nat.{ℕ, _≤_, _<_}
 use mathlib.Core.Path.{_≡_, refl, sym, ap, ap₂, _∙_}
 use mathlib.Core.Logic.{_≢_, inl, inr}
 use mathlib.Core.Bool.{Bool, true, false, cond}
-use Rattle.house.specs.declared.Answer.the-variants.{Ticket, Signals}
+use Rattle.house.specs.declared.Answer.the-variants.{Refused, Delayed, Ticket, Signals}
 use Rattle.house.specs.declared.Found.{Found}
 use Rattle.house.specs.declared.Found.the-variants.{At, Nobody}
 use Rattle.house.specs.declared.House.{House}
@@ -16,18 +16,19 @@ use Rattle.house.specs.declared.Standing.the-variants.{Active}
 use Rattle.house.specs.Search.{ifFound}
 use Rattle.house.specs.Cell.{marked, cellAt, withMark, holds, firstSignalled, countSignalled}
 use Rattle.house.specs.House.{fixed, dominates, levelOf, itemAt, pendingAt, placeAt, vacancy}
-use Rattle.house.specs.Rules.{begin, read, write, certify, commit, abort, _does_, asker, usesItem, ticketAfter, begun, readBy, readAnswer, readFor, writtenBy, certifiedCell, certifiedBy, droppedPending, clearedCell, left, committedItem, committedBy, askAnswer, replied, served, performed, verdict}
+use Rattle.house.specs.Checks.{foremost}
+use Rattle.house.specs.Rules.{begin, read, write, certify, commit, abort, _does_, asker, usesItem, ticketAfter, begun, readBy, readAnswer, readFor, writtenBy, certifiedCell, certifiedBy, droppedPending, clearedCell, left, committedItem, committedBy, askAnswer, replied, served, performed, holder, refusals, named, stepped}
 use Rattle.house.proofs.Tests.{same, or-left, or-right}
 use Rattle.house.proofs.Searches.{scan-same}
 use Rattle.house.proofs.Cells.{cell-here, cell-elsewhere}
-use Rattle.house.proofs.Checks.{Clear, clear, item-there, passes}
+use Rattle.house.proofs.Checks.{Clear, clear, item-there}
+use Rattle.house.proofs.Steps.{refused-is, waits-is, free-is}
 use Rattle.house.proofs.Places.{seek-at, vacancy-at}
 use Rattle.house.proofs.Effects.{begun-place, begun-next, written-pending, certified-place, certified-cell, left-pending, left-place, left-cell, committed-item, begun-place-other, begun-next-other, written-pending-other, certified-place-other, left-place-other, committed-fixed}
 use Rattle.reach.proofs.Law.{Law, same-level}
-use Rattle.reach.proofs.Turns.{refused-is, done-is}
 use Rattle.reach.proofs.Kept.{kept-law}
 use Rattle.quiet.specs.Alike.{stays, Alike, AnsweredAlike}
-use Rattle.quiet.proofs.Numbers.{vacancy-alike, mark-alike, item-seen, asker-alike, verdict-alike}
+use Rattle.quiet.proofs.Numbers.{vacancy-alike, mark-alike, item-seen, asker-alike, refusals-alike, holder-alike, holder-seen}
 
 -- two outcomes: the same reply, and houses that are alike
 abbrev Answers : ℕ → Outcome → Outcome → Type 0
@@ -191,12 +192,18 @@ module _ (k : ℕ) {h g : House} (L : Law h) (M : Law g) (A : Alike k h g) where
         (λ e. if-found k (vacancy (h .places) (q .level)) _ _ _ _ (λ me f. let w = vacancy-at (h .places) (q .level) me b f .within in (ap (λ t. replied q (Ticket t)) (A .tickets (q .level) b d), begin-alike (q .level) me b (w .place) d)) (refl, A))
         (λ e. if-found k (asker h q) _ _ _ _ (λ me f. let w = seek-at (h .places) (q .level) (q .ticket) me b f .within in served-alike me (w .place) (rw (w .level) d)) (refl, A)))
 
+    -- whoever holds what is asked for is at a level up to k, so it has one name
+    named-alike : (p : ℕ) → holder h q ≡ At p → named h p ≡ named g p
+    named-alike p e = let s = holder-seen k A L M q d c p e in ap (λ x. Delayed (x .ticket) (levelOf p)) (A .places p (s .0) (s .1))
+
+    free-alike : foremost (refusals h q) ≡ 0 → foremost (refusals g q) ≡ 0 → (who : Found) → holder h q ≡ who → Answers k (stepped h q) (stepped g q)
+    free-alike z z′ (At p) e = rw (waits-is h q p z e, waits-is g q p z′ (sym (holder-alike k A L M q d c) ∙ e)) (ap (replied q) (named-alike p e), A)
+    free-alike z z′ Nobody e = rw (free-is h q z e, free-is g q z′ (sym (holder-alike k A L M q d c) ∙ e)) performed-alike
+
 pub answered-alike : AnsweredAlike
 answered-alike k h g K J A q d =
-    let L = kept-law K in
-    let M = kept-law J in
-    let v = verdict-alike k A L M q d in
-    elim (same (verdict h q) 0) [
-      | inl z ↦ rw (done-is h q z, done-is g q (sym v ∙ z)) (performed-alike k L M A q d (clear h q (passes h q z .0)))
-      | inr n ↦ rw (refused-is h q _ refl n, refused-is g q _ (sym v) n) (refl, A)
+    let r = refusals-alike k A q d in
+    elim (same (foremost (refusals h q)) 0) [
+      | inl z ↦ free-alike k (kept-law K) (kept-law J) A q d (clear h q z) z (sym r ∙ z) (holder h q) refl
+      | inr n ↦ rw (refused-is h q n, refused-is g q (λ e. n (r ∙ e))) (ap (λ m. replied q (Refused m)) r, A)
     ]

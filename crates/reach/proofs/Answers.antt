@@ -1,6 +1,6 @@
 -- Demand 1: proofs of the statements in specs/Answers.antt.
 -- Assumes nothing.
-use Prim.Native.Nat.{ℕ, _*_}
+use Prim.Native.Nat.{ℕ}
 use mathlib.Core.Path.{_≡_, refl, sym, ap, _∙_}
 use mathlib.Core.Logic.{_≢_, inl, inr}
 use mathlib.Core.Bool.{Bool, true, false, _||_, cond}
@@ -20,14 +20,15 @@ use Rattle.house.specs.Opening.{wrongLength, wrongLevel, openVerdict, opening}
 use Rattle.house.proofs.Tests.{is, clash, or-left, or-right, or-elim}
 use Rattle.house.proofs.Places.{zero-nowhere}
 use Rattle.house.proofs.Checks.{none-applies, none-given, first-given, level-there, clear, passes, asker-known}
+use Rattle.house.proofs.Steps.{unserved-is, done-is}
 use Rattle.house.proofs.Effects.{begun-fixed, read-fixed, written-fixed, certified-fixed, committed-fixed, aborted-fixed}
 use Rattle.reach.specs.Answers.{Stranger, TurnedDown, RefusalKeeps, FirstGiven, DoneExactly, OrderStands, NumberStands, OpeningStands, FixedStays, StrangerRefused, ZeroRefused, StrangerGetsSix, ZeroGetsSix, ZeroNamesNobody}
-use Rattle.reach.proofs.Turns.{Asker, found, Turn, refused, waits, begins, reads, writes, certifies, commits, aborts, asks, turn, refused-is, done-is}
+use Rattle.reach.proofs.Turns.{Asker, found, Turn, refused, waits, begins, reads, writes, certifies, commits, aborts, asks, turn}
 use Rattle.reach.proofs.Opened.{reachable-has}
 use Rattle.reach.proofs.Guards.{number}
 
 pub refusal-keeps : RefusalKeeps
-refusal-keeps h q n = ap (λ o. o .house) (refused-is h q _ refl (λ e. n (number h q ∙ e)))
+refusal-keeps h q n = ap (λ o. o .house) (unserved-is h q _ refl (λ e. n (number h q ∙ e)))
 
 pub first-applying : FirstGiven
 unfolding verdict checks refusals
@@ -73,7 +74,7 @@ opening-stands levels =
 
 turn-fixed : {h : House} {q : Request} {o : Outcome} → Turn h q o → fixed (o .house) ≡ fixed h
 turn-fixed (refused n) = refl
-turn-fixed (waits me A z c) = refl
+turn-fixed (waits me p A z c) = refl
 turn-fixed {h} {q} (begins me o K) = begun-fixed h (q .level) me
 turn-fixed {h} {q} (reads me o A K) = read-fixed h me (q .item)
 turn-fixed {h} {q} (writes me o A K) = written-fixed h me (q .item) (q .value)

@@ -11,9 +11,11 @@ use Rattle.house.specs.declared.House.{House}
 use Rattle.house.specs.declared.Mark.{Mark}
 use Rattle.house.specs.declared.Mark.the-variants.{Read, Write, Certify, Signalled}
 use Rattle.house.specs.declared.Standing.{Standing}
-use Rattle.house.specs.Cell.{has, cellAt}
+use Rattle.house.specs.Cell.{has, cellAt, anotherHolds}
 use Rattle.house.specs.House.{fixed, Sizes, dominates, above, levelOf, blank, itemAt, pendingAt, placeAt, isFree, isActive, isCertified}
+use Rattle.house.specs.Rules.{anotherClaims}
 use Rattle.reach.specs.Kept.{Open, Issued}
+use Rattle.house.proofs.Holders.{another-is}
 use Rattle.house.proofs.Tests.{same, clash, refuted, or-left, or-right, or-elim, or-false}
 
 -- the cell says that its item is written: with the write lock or, once certified, with the certify lock
@@ -99,6 +101,15 @@ clear-law z free clear =
 -- who has a lock is open
 pub locked-open : {h : House} → Law h → (m : Mark) (p i : ℕ) → p < 32 → i < 64 → has m (cellAt (h .cells) p i) ≡ true → Open h p
 locked-open {h} L m p i b a e = refuted _ (λ f. clash e (clear-has m _ (L .cells p i b a .idle f)))
+
+-- and what another has written on an item that a level dominates, that level dominates
+pub claimed-below : {h : House} → Law h → (l me p i : ℕ) → p < 32 → i < 64 → dominates l (itemAt (h .items) i .level) ≡ true → anotherClaims (h .cells) me i p ≡ true → dominates l (levelOf p) ≡ true
+unfolding anotherClaims
+claimed-below {h} L l me p i b a d y =
+    let own = L .cells p i b a .owned in
+    or-elim (anotherHolds (h .cells) Write me i p) (anotherHolds (h .cells) Certify me i p) y
+    (λ w. rw (own (held-write _ (another-is (h .cells) Write me i p w .marked))) at d)
+    (λ w. rw (own (held-certify _ (another-is (h .cells) Certify me i p w .marked))) at d)
 
 -- what one has written, no other has
 pub unheld : {h : House} → Law h → (p q i : ℕ) → p < 32 → q < 32 → i < 64 → p ≢ q → held (cellAt (h .cells) q i) ≡ true → held (cellAt (h .cells) p i) ≡ false

@@ -4,8 +4,9 @@ pub mod Changes
 pub mod Kept
 pub mod Opened
 pub mod Guards
-pub mod Delay
 pub mod Decides
+pub mod Holder
+pub mod Delay
 pub mod Answers
 pub mod Seeking
 pub mod Replies

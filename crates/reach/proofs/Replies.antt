@@ -15,6 +15,7 @@ use Rattle.house.specs.declared.Request.{Request}
 use Rattle.house.specs.Cell.{holds}
 use Rattle.house.specs.Rules.{begin, read, ask, asker, verdict, readAnswer, readFor, askAnswer, replied}
 use Rattle.house.proofs.Tests.{is}
+use Rattle.house.proofs.Checks.{refusal-not-delay}
 use Rattle.reach.specs.Replies.{Whole, ReplyWhole}
 use Rattle.reach.proofs.Turns.{Turn, refused, waits, begins, reads, writes, certifies, commits, aborts, asks, turn}
 use Rattle.reach.proofs.Guards.{number}
@@ -37,8 +38,8 @@ module _ (h : House) (q : Request) where
   ask-whole me o a n = record { number = n; operation = refl; item = rw (o, a); ticket = rw o; value = rw (o, a); version = rw o }
 
 turn-whole : {h : House} {q : Request} {o : Outcome} → o .reply .number ≡ verdict h q → Turn h q o → Whole h q (o .reply)
-turn-whole n (refused z) = let e = ne-eqb _ 0 z in record { number = n; operation = refl; item = rw e; ticket = rw e; value = rw e; version = rw e }
-turn-whole n (waits me A z c) = record { number = n; operation = refl; item = refl; ticket = refl; value = refl; version = refl }
+turn-whole {h} {q} n (refused z) = let e = ne-eqb _ 0 z in let d = refusal-not-delay h q in record { number = n; operation = refl; item = rw e; ticket = rw e; value = rw (e, d); version = rw (e, d) }
+turn-whole n (waits me p A z c) = record { number = n; operation = refl; item = refl; ticket = refl; value = rw (A .at, c); version = rw (A .at, c) }
 turn-whole n (begins me o K) = record { number = n; operation = refl; item = rw o; ticket = rw o; value = rw o; version = rw o }
 turn-whole {h} {q} n (reads me o A K) = read-whole h q me o (A .at) n
 turn-whole {h} {q} n (writes me o A K) = plain h q 2 o refl refl refl n

@@ -3,6 +3,7 @@ pub mod Kept
 pub mod Guards
 pub mod Delay
 pub mod Decides
+pub mod Holder
 pub mod Answers
 pub mod Seeking
 pub mod Replies

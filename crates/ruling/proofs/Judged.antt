@@ -5,7 +5,7 @@ use native.Mathlib.Omega.{arith}
 use native.Mathlib.Nat.{add-zero, zero-add, mod-lt, mod-eq-of-lt}
 use mathlib.Core.Path.{_≡_, refl, sym, ap, _∙_}
 use mathlib.Core.Logic.{_≢_, inl, inr}
-use mathlib.Core.Bool.{Bool, true, false, cond, _||_, not}
+use mathlib.Core.Bool.{Bool, true, false, cond, _&&_, _||_, not}
 use mathlib.Core.List.{List, [], _∷_, _++_}
 use lib.ListN.{length, drop, getD, replicate, length-replicate}
 use lib.Seq.{getD-append-add}
@@ -15,37 +15,44 @@ use Rattle.house.specs.declared.Found.{Found}
 use Rattle.house.specs.declared.Found.the-variants.{At, Nobody}
 use Rattle.house.specs.declared.House.{House}
 use Rattle.house.specs.declared.Item.{Item}
+use Rattle.house.specs.declared.Mark.the-variants.{Write}
 use Rattle.house.specs.declared.Place.{Place}
 use Rattle.house.specs.declared.Request.{Request}
 use Rattle.house.specs.Checks.{foremost}
-use Rattle.house.specs.Search.{scan, find, onRound, findRound, ifFound, nobody}
+use Rattle.house.specs.Search.{scan, any, find, findFirst, onRound, findRound, ifFound, nobody}
+use Rattle.house.specs.Cell.{holds}
 use Rattle.house.specs.House.{blank, vacant, itemAt, pendingAt, placeAt, nextAt, freeAt, hasTicket, seek, vacancy}
-use Rattle.house.specs.Rules.{begin, _does_, asker, noOperation, noLevel, unusedSet, conflict, checks, verdict}
+use Rattle.house.specs.Rules.{begin, certify, _does_, asker, noOperation, noLevel, unusedSet, usesItem, hinders, wants, holderOn, conflict, holder, refusals}
 use Rattle.house.proofs.Unfolding.{tests}
 use Rattle.house.proofs.Operations.{operation-of, is-begin, is-read, is-write, is-certify, is-commit, is-abort, is-ask}
 use Rattle.house.proofs.Tests.{is, same, and-true, or-right}
-use Rattle.house.proofs.Checks.{numbered, level-there}
-use Rattle.house.proofs.Searches.{scan-same, scan-first}
+use Rattle.house.proofs.Checks.{numbered, there, level-there}
+use Rattle.house.proofs.Searches.{any-find, none-found, scan-same, scan-first}
+use Rattle.house.proofs.Holders.{conflict-on, conflict-never}
 use Rattle.house.proofs.Places.{seek-at}
 use Rattle.house.specs.declared.Answer.the-variants.{Ticket}
 use Rattle.ruling.specs.declared.Case.{Case}
 use Rattle.ruling.specs.declared.Change.the-variants.{Begin}
 use Rattle.ruling.specs.declared.Ruling.{Ruling}
+use Rattle.ruling.specs.declared.Ruling.the-variants.{Refuse, Wait, Grant}
 use Rattle.ruling.specs.declared.View.{View}
-use Rattle.ruling.specs.Ruling.{refusal, grant, granted, ruled}
-use Rattle.ruling.specs.Judged.{Shown, Judged, found, chain, beginRuled, readRuled, writeRuled, certifyRuled, commitRuled, knownRuled}
+use Rattle.ruling.specs.Ruling.{granted, ruled}
+use Rattle.ruling.specs.Judged.{Shown, Judged, found, chain, lowestHolder, waitsAt, certifyHolder, beginRuled, readRuled, writeRuled, certifyRuled, commitRuled, knownRuled}
 
--- The checks one by one: the ruling of the first that applies, or what is granted
+-- The checks one by one: the refusal of the first that applies, or what is ruled where none does
 
-chained : (l : List (ℕ × Bool)) (g : Ruling) → numbered l ≡ true → cond (eqb (foremost l) 0) g (refusal (foremost l)) ≡ chain l g
+chained : (l : List (ℕ × Bool)) (g : Ruling) → numbered l ≡ true → cond (eqb (foremost l) 0) g (Refuse (foremost l)) ≡ chain l g
 chained [] g n = refl
 chained (x ∷ xs) g n =
     let k = and-true (not (eqb (x .0) 0)) (numbered xs) n in
     elim (is (x .1)) [ inl y ↦ rw (y, not-true (eqb (x .0) 0) (k .0)) | inr y ↦ rw y (chained xs g (k .1)) ]
 
-ruled-chain : (h : House) (q : Request) → ruled h q ≡ chain (checks h q) (granted h q)
-unfolding ruled verdict tests
-ruled-chain h q = chained (checks h q) (granted h q) refl
+abbrev pastRefusals : House → Request → Ruling
+pastRefusals h q = ifFound (holder h q) Wait (granted h q)
+
+ruled-chain : (h : House) (q : Request) → ruled h q ≡ chain (refusals h q) (pastRefusals h q)
+unfolding ruled refusals
+ruled-chain h q = chained (refusals h q) (pastRefusals h q) refl
 
 -- A search over the 32 from b on is one over the eight, moved
 
@@ -79,6 +86,19 @@ round-moved f g b n start e =
     places (At k) = rw (zero-add ((start + k) % n))
     places Nobody = refl
 
+-- Of those that have w, whom the first that finds somebody finds: the lowest that has somebody, and whoever that is
+first-some : (w : ℕ → Bool) (f : ℕ → ℕ → Bool) (k n : ℕ) → findFirst (λ i. cond (w i) (find (f i) 0 32) Nobody) k n ≡ ifFound (find (λ i. w i && any (f i) 0 32) k n) (λ i. find (f i) 0 32) Nobody
+unfolding scan
+first-some w f k zero = refl
+first-some w f k (suc n) =
+    elim (is (w k)) [
+      | inl y ↦ elim (is (any (f k) 0 32)) [
+        | inl e ↦ let p = any-find (f k) 0 32 e in rw (y, e, p .1)
+        | inr e ↦ rw (y, e, none-found (f k) 0 32 e) (first-some w f (suc k) n)
+      ]
+      | inr y ↦ rw y (first-some w f (suc k) n)
+    ]
+
 -- the case of the transaction at place `me`
 abbrev made : ℕ → Item → ℕ → Place → Request → ℕ → Case
 made count x v s q me = record { request = q; count = count; row = x; pending = v; me = me; seat = s }
@@ -91,7 +111,7 @@ requestChecks q = (3, noOperation q) ∷ (4, noLevel q) ∷ (5, unusedSet q) ∷
 abbrev operationRuled : View → List ℕ → Request → Ruling
 operationRuled v cells q =
     let begin′ = beginRuled (vacancy (v .eight) 0) (v .ticket) (q .level) in
-    let others = ifFound (seek (v .eight) 0 (q .ticket)) (λ k. knownRuled (found v q k) cells) (refusal 6) in
+    let others = ifFound (seek (v .eight) 0 (q .ticket)) (λ k. knownRuled (found v q k) cells) (Refuse 6) in
     cond (q does begin) begin′ others
 
 unfoldable pub shownRuled : View → List ℕ → Request → Ruling
@@ -100,7 +120,7 @@ shownRuled v cells q = chain (requestChecks q) (operationRuled v cells q)
 -- WHAT IS RULED, over the house, past the checks of the request alone
 
 granted-begin : (free : Found) (t l : ℕ) → let all = moved (l * 8) free in
-    cond (nobody all) (refusal 11) (cond (eqb t 0) (refusal 12) (ifFound all (λ me. grant (Ticket t) (Begin l me)) (refusal 11))) ≡ beginRuled free t l
+    cond (nobody all) (Refuse 11) (cond (eqb t 0) (Refuse 12) (ifFound all (λ me. Grant (Ticket t) (Begin l me)) (Refuse 11))) ≡ beginRuled free t l
 unfolding beginRuled
 granted-begin (At k) t l = refl
 granted-begin Nobody t l = refl
@@ -108,18 +128,17 @@ granted-begin Nobody t l = refl
 module _ (h : House) (q : Request) where
   -- the checks of the request alone have passed: the rest of the chain decides
   abbrev rest : Ruling
-  rest = chain (drop (length (requestChecks q)) (checks h q)) (granted h q)
+  rest = chain (drop (length (requestChecks q)) (refusals h q)) (pastRefusals h q)
 
-  undelayed : (who : Found) → q .operation ≡ begin → ifFound who (conflict (h .cells) q) false ≡ false
-  unfolding conflict
-  undelayed (At me) o = rw o
+  undelayed : (who : Found) → q .operation ≡ begin → ifFound who (conflict (h .cells) q) Nobody ≡ Nobody
+  undelayed (At me) o = conflict-never (h .cells) q me (rw o) (rw o)
   undelayed Nobody o = refl
 
   begin-ruled : q .operation ≡ begin → (free : Found) → vacancy (h .places) (q .level) ≡ moved (q .level * 8) free → rest ≡ beginRuled free (nextAt (h .next) (q .level)) (q .level)
   unfolding tests granted
   begin-ruled o free e = rw (undelayed (asker h q) o, o, e) (granted-begin free (nextAt (h .next) (q .level)) (q .level))
 
-  unknown-ruled : q .operation ≢ begin → asker h q ≡ Nobody → rest ≡ refusal 6
+  unknown-ruled : q .operation ≢ begin → asker h q ≡ Nobody → rest ≡ Refuse 6
   unfolding tests
   unknown-ruled o e = rw (ne-eqb (q .operation) 0 o, e)
 
@@ -127,16 +146,30 @@ module _ (h : House) (q : Request) where
     abbrev case : Case
     case = made (h .count) (itemAt (h .items) (q .item)) (pendingAt (h .pending) (q .item)) (placeAt (h .places) me) q me
 
+    abbrev lacks : Bool
+    lacks = leb (h .count) (q .item) || leb 64 (q .item)
+
+    -- a read or a write asks for a lock on its item, where that is there; a certify on what it has written; any other for none
+    on-item : usesItem q ≡ true → lacks ≡ false → conflict (h .cells) q me ≡ lowestHolder (h .cells) (q .operation) me (q .item)
+    on-item u e = conflict-on (h .cells) q me u (there (h .count) (q .item) e .1)
+
+    on-written : q .operation ≡ certify → conflict (h .cells) q me ≡ certifyHolder (h .cells) me
+    unfolding conflict holderOn wants waitsAt
+    on-written o = simp o (first-some (holds (h .cells) Write me) (hinders (h .cells) certify me) 0 64)
+
+    on-none : usesItem q ≡ false → q does certify ≡ false → conflict (h .cells) q me ≡ Nobody
+    on-none = conflict-never (h .cells) q me
+
     known-ruled : noOperation q ≡ false → q .operation ≢ begin → rest ≡ knownRuled case (h .cells)
     unfolding tests granted knownRuled readRuled writeRuled certifyRuled commitRuled
     known-ruled n b = elim (operation-of q n) [
       | is-begin o ↦ absurd (b o)
-      | is-read o ↦ simp (at, o)
-      | is-write o ↦ simp (at, o)
-      | is-certify o ↦ simp (at, o)
-      | is-commit o ↦ simp (at, o)
-      | is-abort o ↦ simp (at, o)
-      | is-ask o ↦ simp (at, o)
+      | is-read o ↦ elim (is lacks) [ inl e ↦ simp (at, o, e) | inr e ↦ simp (at, on-item (rw o) e, o) ]
+      | is-write o ↦ elim (is lacks) [ inl e ↦ simp (at, o, e) | inr e ↦ simp (at, on-item (rw o) e, o) ]
+      | is-certify o ↦ simp (at, on-written o, o)
+      | is-commit o ↦ simp (at, on-none (rw o) (rw o), o)
+      | is-abort o ↦ simp (at, on-none (rw o) (rw o), o)
+      | is-ask o ↦ simp (at, on-none (rw o) (rw o), o)
     ]
 
 -- The row and the pending value of an item that the house has not are not looked at
@@ -176,7 +209,7 @@ module _ (v : View) (cells : List ℕ) (q : Request) (h : House) (k : Shown h q 
     unfolding vacancy freeAt
     vacancy-eight = find-moved _ _ (q .level * 8) 8 (λ n b. rw (k .places level n b))
 
-    others-shown : q .operation ≢ begin → (who : Found) → seek (v .eight) 0 (q .ticket) ≡ who → rest h q ≡ ifFound who (λ n. knownRuled (found v q n) cells) (refusal 6)
+    others-shown : q .operation ≢ begin → (who : Found) → seek (v .eight) 0 (q .ticket) ≡ who → rest h q ≡ ifFound who (λ n. knownRuled (found v q n) cells) (Refuse 6)
     others-shown o Nobody e = unknown-ruled h q o (seek-eight ∙ rw e)
     others-shown o (At n) e =
         let b = seek-at (v .eight) 0 (q .ticket) n (omega arith) e .within .level in

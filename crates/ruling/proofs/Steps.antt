@@ -1,30 +1,33 @@
 -- The ruling of a request and the change made of it are the step of the rules.
 -- Assumes nothing.
 use Prim.Native.Nat.{ℕ, _<_}
-use mathlib.Core.Path.{_≡_, refl}
+use mathlib.Core.Path.{_≡_, refl, _∙_}
 use mathlib.Core.Logic.{_≢_, inl, inr}
 use mathlib.Core.Bool.{true, false}
-use lib.Dec.{eqb, ltb}
-use borrow.Author.Tests.{eqb-true, lt-ltb}
-use Rattle.house.specs.declared.Found.the-variants.{At}
+use lib.Dec.{ltb}
+use borrow.Author.Tests.{eq-eqb, ne-eqb, lt-ltb}
+use Rattle.house.specs.declared.Found.{Found}
+use Rattle.house.specs.declared.Found.the-variants.{At, Nobody}
 use Rattle.house.specs.declared.House.{House}
 use Rattle.house.specs.declared.Request.{Request}
 use Rattle.house.specs.House.{Sizes, vacancy}
 use Rattle.house.specs.Checks.{foremost}
-use Rattle.house.specs.Rules.{begin, asker, usesItem, crowded, refusals, verdict, outcome, served, performed, stepped}
+use Rattle.house.specs.Search.{ifFound}
+use Rattle.house.specs.Rules.{begin, asker, usesItem, crowded, conflict, holder, refusals, outcome, served, performed, stepped}
 use Rattle.house.proofs.Operations.{is-begin, is-read, is-write, is-certify, is-commit, is-abort, is-ask, not-begin}
-use Rattle.house.proofs.Tests.{is, and-intro}
+use Rattle.house.proofs.Tests.{same, and-intro}
 use Rattle.house.proofs.Places.{seek-at, vacancy-at}
 use Rattle.house.proofs.Effects.{begun-sizes, read-sizes, written-sizes, certified-sizes, left-sizes, committed-sizes}
-use Rattle.house.proofs.Checks.{Clear, clear, item-there, passes, somebody, asker-known}
+use Rattle.house.proofs.Checks.{Clear, clear, item-there, somebody, asker-known}
+use Rattle.house.proofs.Steps.{refused-is, waits-is, free-is, holder-at}
+use Rattle.house.proofs.Holders.{conflict-at}
 use Rattle.ruling.specs.declared.Change.{Change}
 use Rattle.ruling.specs.declared.Change.the-variants.{Nothing, Begin, Read, Write, Certify, End}
-use Rattle.ruling.specs.Ruling.{effect, fits, granted, ruled}
+use Rattle.ruling.specs.declared.Ruling.{Ruling}
+use Rattle.ruling.specs.declared.Ruling.the-variants.{Wait}
+use Rattle.ruling.specs.Ruling.{effect, answerOf, changeOf, rulingFits, granted, ruled}
 
-module _ (h : House) (q : Request) (passed : verdict h q ≡ 0) where
-  unrefused : foremost (refusals h q) ≡ 0
-  unrefused = passes h q passed .0
-
+module _ (h : House) (q : Request) (unrefused : foremost (refusals h q) ≡ 0) where
   abbrev c : Clear h q
   c = clear h q unrefused
 
@@ -34,7 +37,7 @@ module _ (h : House) (q : Request) (passed : verdict h q ≡ 0) where
 
   -- what is granted is what the rules do, and names what the house has
   abbrev Made : Type 0
-  Made = (performed h q ≡ outcome (effect h (granted h q .change)) q (granted h q .answer)) × (fits (granted h q .change) ≡ true)
+  Made = (performed h q ≡ outcome (effect h (changeOf (granted h q))) q (answerOf h (granted h q))) × (rulingFits (granted h q) ≡ true)
 
   begin-made : q .operation ≡ begin → Made
   unfolding performed granted crowded
@@ -61,15 +64,27 @@ module _ (h : House) (q : Request) (passed : verdict h q ≡ 0) where
     | is-ask o ↦ by-asker (not-begin o) (λ me at b. rw (o, at) (refl, refl))
   ]
 
--- the ruling of a request and the effect of its change are the step of the rules
-pub ruled-steps : (h : House) (q : Request) → stepped h q ≡ outcome (effect h (ruled h q .change)) q (ruled h q .answer)
-unfolding stepped ruled
-ruled-steps h q = elim (is (eqb (verdict h q) 0)) [ inl e ↦ rw e (done-made h q (eqb-true _ 0 e) .0) | inr e ↦ rw e ]
+-- so the ruling, with the effect of its change, is the step of the rules, and names what the house has
+module _ (h : House) (q : Request) where
+  abbrev Ruled : Ruling → Type 0
+  Ruled r = (stepped h q ≡ outcome (effect h (changeOf r)) q (answerOf h r)) × (rulingFits r ≡ true)
 
--- and the change names what the house has
-pub ruled-fits : (h : House) (q : Request) → fits (ruled h q .change) ≡ true
-unfolding ruled
-ruled-fits h q = elim (is (eqb (verdict h q) 0)) [ inl e ↦ rw e (done-made h q (eqb-true _ 0 e) .1) | inr e ↦ rw e ]
+  holder-there : (p : ℕ) → holder h q ≡ At p → p < 32
+  holder-there p e = let w = holder-at (asker h q) (conflict (h .cells) q) p e in conflict-at (h .cells) q (w .0) p (w .2) .place
+
+  unrefused : foremost (refusals h q) ≡ 0 → (who : Found) → holder h q ≡ who → Ruled (ifFound who Wait (granted h q))
+  unrefused z (At p) e = (waits-is h q p z e, lt-ltb p 32 (holder-there p e))
+  unrefused z Nobody e = let made = done-made h q z in (free-is h q z e ∙ made .0, made .1)
+
+  all-ruled : Ruled (ruled h q)
+  unfolding ruled
+  all-ruled = elim (same (foremost (refusals h q)) 0) [ inl z ↦ rw (eq-eqb _ 0 z) (unrefused z (holder h q) refl) | inr n ↦ rw (ne-eqb _ 0 n) (refused-is h q n, refl) ]
+
+pub ruled-steps : (h : House) (q : Request) → stepped h q ≡ outcome (effect h (changeOf (ruled h q))) q (answerOf h (ruled h q))
+ruled-steps h q = all-ruled h q .0
+
+pub ruled-fits : (h : House) (q : Request) → rulingFits (ruled h q) ≡ true
+ruled-fits h q = all-ruled h q .1
 
 -- the house stays as large as it was
 effect-sizes : {h : House} → Sizes h → (c : Change) → Sizes (effect h c)
@@ -82,4 +97,4 @@ effect-sizes z (End me true) = committed-sizes z me
 effect-sizes z (End me false) = left-sizes z me
 
 pub stepped-sizes : (h : House) → Sizes h → (q : Request) → Sizes (stepped h q .house)
-stepped-sizes h z q = rw (ruled-steps h q) (effect-sizes z (ruled h q .change))
+stepped-sizes h z q = rw (ruled-steps h q) (effect-sizes z (changeOf (ruled h q)))

@@ -1,4 +1,4 @@
-// What is ruled of a request: its answer, and the change of the house that goes with it.
+// What is ruled of a request: refused, delayed, or granted, with the change of the house that goes with it.
 // The judge sees parts of the house and changes nothing; the change is made elsewhere, for done requests only.
 
 use house::Answer;
@@ -21,9 +21,12 @@ pub enum Change {
     End(usize, bool),
 }
 
-pub struct Ruling {
-    pub answer: Answer,
-    pub change: Change,
+pub enum Ruling {
+    Grant(Answer, Change),
+    // the holder's place. It may be of a level that the judge is not shown, so the holder is named where the house is
+    Wait(usize),
+    // the number
+    Refuse(u8),
 }
 
 // What the judge is shown of a house, beside its cells: of the request's level the eight places and the next ticket, of its item

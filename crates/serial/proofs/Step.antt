@@ -9,9 +9,10 @@ use mathlib.Core.Logic.{_≢_, _⊎_, inl, inr}
 use mathlib.Core.Bool.{true, false, _||_}
 use mathlib.Core.List.{[], _∷_}
 use borrow.Author.Tests.{eq-eqb, ne-eqb}
-use Rattle.house.specs.declared.Answer.the-variants.{Refused, Done, Ticket}
+use Rattle.house.specs.declared.Answer.the-variants.{Done, Ticket}
 use Rattle.house.specs.declared.House.{House}
 use Rattle.house.specs.declared.Outcome.{Outcome}
+use Rattle.house.specs.declared.Reply.{Reply}
 use Rattle.house.specs.declared.Request.{Request}
 use Rattle.house.specs.House.{levelOf, placeAt, nextAt}
 use Rattle.house.specs.Rules.{read, write, commit, ticketAfter, begun, readBy, readFor, writtenBy, certifiedBy, left, committedBy, abortedBy, askAnswer, replied, stepped}
@@ -157,9 +158,9 @@ unmoved {t} {h} {past} I e z c =
 -- The operations
 
 module _ {t : Table} {h : House} {past : Past} (I : Known t h past) (q : Request) where
-  refused-known : (n : ℕ) → n ≢ 0 → Known t h ((q, replied q (Refused n)) ∷ past)
+  undone-known : (r : Reply) → r .number ≢ 0 → Known t h ((q, r) ∷ past)
   unfolding quiet
-  refused-known n z = unmoved I _ (rw (ne-eqb n 0 z)) (rw (ne-eqb n 0 z))
+  undone-known r z = let n = ne-eqb (r .number) 0 z in unmoved I _ (rw n) (rw n)
 
   module _ (me : ℕ) where
     begin-unheard : MayBegin h (q .level) me → Unheard (begun h (q .level) me) past
@@ -249,8 +250,8 @@ module _ {t : Table} {h : House} {past : Past} (I : Known t h past) (q : Request
       ask-known o = unmoved I _ (rw o) (rw o)
 
   turn-known : {o : Outcome} → Turn h q o → Known t (o .house) ((q, o .reply) ∷ past)
-  turn-known (refused n) = refused-known _ n
-  turn-known (waits me A z c) = refused-known 1 (λ e. omega arith)
+  turn-known (refused n) = undone-known _ n
+  turn-known (waits me p A z c) = undone-known _ (λ e. omega arith)
   turn-known (begins me o K) = begin-known me o K
   turn-known (reads me o A K) = read-known me (A .seated) o K
   turn-known (writes me o A K) = write-known me (A .seated) o K

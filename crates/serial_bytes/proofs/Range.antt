@@ -3,7 +3,7 @@
 use Prim.Native.Nat.{ℕ, zero, suc, _<_, _≤_}
 use native.Mathlib.Omega.{arith}
 use mathlib.Core.Path.{_≡_, refl}
-use mathlib.Core.Logic.{inl, inr}
+use mathlib.Core.Logic.{_≢_, inl, inr}
 use mathlib.Core.Bool.{Bool, _||_}
 use mathlib.Core.List.{List, []}
 use lib.ListN.{getD}
@@ -18,13 +18,14 @@ use Rattle.house.specs.declared.Outcome.{Outcome}
 use Rattle.house.specs.declared.Request.{Request}
 use Rattle.house.specs.Search.{scan, count, ifFound}
 use Rattle.house.specs.Cell.{holds, firstSignalled, countSignalled}
-use Rattle.house.specs.House.{Sizes, itemAt, pendingAt, nextAt}
+use Rattle.house.specs.House.{Sizes, itemAt, pendingAt, placeAt, nextAt}
 use Rattle.house.specs.Rules.{ticketAfter, grown, begun, readBy, readAnswer, readFor, writtenBy, certifiedBy, droppedPending, left, committedItem, committedBy, abortedBy, askAnswer, said, replied, stepped}
 use Rattle.house.specs.Opening.{opened, opening}
 use Rattle.house.proofs.Tests.{is, same}
 use Rattle.house.proofs.Searches.{find-below}
-use Rattle.house.proofs.Openings.{opened-sizes, opened-item, opened-pending, opened-next}
-use Rattle.house.proofs.Effects.{begun-sizes, begun-next, begun-next-other, read-sizes, written-sizes, written-pending, written-pending-other, certified-sizes, left-sizes, left-pending, committed-sizes, committed-item}
+use Rattle.house.proofs.Holders.{conflict-at}
+use Rattle.house.proofs.Openings.{opened-sizes, opened-item, opened-pending, opened-place, opened-next}
+use Rattle.house.proofs.Effects.{begun-sizes, begun-next, begun-next-other, begun-place, begun-place-other, certified-place, certified-place-other, left-place, left-place-other, read-sizes, written-sizes, written-pending, written-pending-other, certified-sizes, left-sizes, left-pending, committed-sizes, committed-item}
 use Rattle.wire.specs.Wire.{requestAt}
 use Rattle.wire.specs.RoundTrip.{FitRequest, FitReply}
 use Rattle.reach.proofs.Turns.{Turn, turn, refused, waits, begins, reads, writes, certifies, commits, aborts, asks}
@@ -38,6 +39,7 @@ pub record Fits (h : House) : Type 0 where
   pub sizes : Sizes h
   pub items : (i : ℕ) → i < 64 → FitItem (itemAt (h .items) i)
   pub pending : (i : ℕ) → i < 64 → pendingAt (h .pending) i < 4294967296
+  pub tickets : (p : ℕ) → p < 32 → placeAt (h .places) p .ticket < 4294967296
   pub next : (l : ℕ) → l < 4 → nextAt (h .next) l < 4294967296
 
 -- Numbers that grow
@@ -72,19 +74,24 @@ unfolding droppedPending
 dropped-fits cells me i v b = elim (is (holds cells Write me i || holds cells Certify me i)) [ inl y ↦ rw y (omega arith) | inr n ↦ rw n b ]
 
 module _ {h : House} (f : Fits h) where
-  begun-fits : (l me : ℕ) → l < 4 → Fits (begun h l me)
+  -- one place changed
+  tickets-fit : (h′ : House) (me : ℕ) → placeAt (h′ .places) me .ticket < 4294967296 → ((p : ℕ) → p ≢ me → placeAt (h′ .places) p ≡ placeAt (h .places) p) → (p : ℕ) → p < 32 → placeAt (h′ .places) p .ticket < 4294967296
+  tickets-fit h′ me t others p b = elim (same p me) [ inl e ↦ rw e t | inr n ↦ rw (others p n) (f .tickets p b) ]
+
+  begun-fits : (l me : ℕ) → l < 4 → me < 32 → Fits (begun h l me)
   unfolding begun
-  begun-fits l me b =
+  begun-fits l me b m =
       record {
         sizes = begun-sizes (f .sizes) l me;
         items = f .items;
         pending = f .pending;
+        tickets = tickets-fit (begun h l me) me (rw (begun-place (f .sizes) l me m) (f .next l b)) (begun-place-other h l me);
         next = λ k c. elim (same k l) [ inl e ↦ rw (e, begun-next (f .sizes) l me b) (after-fits (nextAt (h .next) l)) | inr n ↦ rw (begun-next-other h l me k n) (f .next k c) ];
       }
 
   read-fits : (me i : ℕ) → Fits (readBy h me i)
   unfolding readBy
-  read-fits me i = record { sizes = read-sizes (f .sizes) me i; items = f .items; pending = f .pending; next = f .next }
+  read-fits me i = record { sizes = read-sizes (f .sizes) me i; items = f .items; pending = f .pending; tickets = f .tickets; next = f .next }
 
   written-fits : (me i v : ℕ) → i < 64 → v < 4294967296 → Fits (writtenBy h me i v)
   unfolding writtenBy
@@ -93,30 +100,40 @@ module _ {h : House} (f : Fits h) where
         sizes = written-sizes (f .sizes) me i v;
         items = f .items;
         pending = λ j c. elim (same j i) [ inl e ↦ rw (e, written-pending (f .sizes) me i v a) b | inr n ↦ rw (written-pending-other h me i v j n) (f .pending j c) ];
+        tickets = f .tickets;
         next = f .next;
       }
 
-  certified-fits : (me : ℕ) → Fits (certifiedBy h me)
+  certified-fits : (me : ℕ) → me < 32 → Fits (certifiedBy h me)
   unfolding certifiedBy
-  certified-fits me = record { sizes = certified-sizes (f .sizes) me; items = f .items; pending = f .pending; next = f .next }
+  certified-fits me m =
+      record {
+        sizes = certified-sizes (f .sizes) me;
+        items = f .items;
+        pending = f .pending;
+        tickets = tickets-fit (certifiedBy h me) me (rw (certified-place (f .sizes) me m) (f .tickets me m)) (certified-place-other h me);
+        next = f .next;
+      }
 
-  aborted-fits : (me : ℕ) → Fits (abortedBy h me)
+  aborted-fits : (me : ℕ) → me < 32 → Fits (abortedBy h me)
   unfolding left
-  aborted-fits me =
+  aborted-fits me m =
       record {
         sizes = left-sizes (f .sizes) me;
         items = f .items;
         pending = λ i a. rw (left-pending (f .sizes) me i a) (dropped-fits (h .cells) me i _ (f .pending i a));
+        tickets = tickets-fit (left h me) me (rw (left-place (f .sizes) me m) (omega arith)) (left-place-other h me);
         next = f .next;
       }
 
-  committed-fits : (me : ℕ) → Fits (committedBy h me)
-  committed-fits me =
-      let g = aborted-fits me in
+  committed-fits : (me : ℕ) → me < 32 → Fits (committedBy h me)
+  committed-fits me m =
+      let g = aborted-fits me m in
       record {
         sizes = committed-sizes (f .sizes) me;
         items = λ i a. rw (committed-item (f .sizes) me i a) (item-fits (h .cells) (h .pending) me i (itemAt (h .items) i) (f .pending i a) (f .items i a));
         pending = g .pending;
+        tickets = g .tickets;
         next = g .next;
       }
 
@@ -147,13 +164,13 @@ module _ {h : House} (f : Fits h) (q : Request) (k : FitRequest q) where
   turn-fits : (o : Outcome) → Turn h q o → Both o
   unfolding askAnswer countSignalled
   turn-fits o (refused n) = (f, plain _)
-  turn-fits o (waits me s z c) = (f, plain 1)
-  turn-fits o (begins me z m) = (begun-fits f (q .level) me (m .level), record { item = k .item; ticket = f .next (q .level) (m .level); value = omega arith; version = omega arith })
+  turn-fits o (waits me p s z c) = let b = conflict-at (h .cells) q me p c .place in (f, record { item = k .item; ticket = k .ticket; value = f .tickets p b; version = omega arith })
+  turn-fits o (begins me z m) = (begun-fits f (q .level) me (m .level) (m .place), record { item = k .item; ticket = f .next (q .level) (m .level); value = omega arith; version = omega arith })
   turn-fits o (reads me z s m) = (read-fits f me (q .item), read-answer me (m .row))
   turn-fits o (writes me z s m) = (written-fits f me (q .item) (q .value) (m .row) (k .value), plain 0)
-  turn-fits o (certifies me z s m) = (certified-fits f me, plain 0)
-  turn-fits o (commits me z s m) = (committed-fits f me, plain 0)
-  turn-fits o (aborts me z s) = (aborted-fits f me, plain 0)
+  turn-fits o (certifies me z s m) = (certified-fits f me (m .place), plain 0)
+  turn-fits o (commits me z s m) = (committed-fits f me (m .place), plain 0)
+  turn-fits o (aborts me z s) = (aborted-fits f me (s .seated .within .place), plain 0)
   turn-fits o (asks me z s) = (f, record { item = first-fits (h .cells) me _ refl; ticket = k .ticket; value = omega (arith, count-fits (holds (h .cells) Signalled me) 0 64); version = omega arith })
 
 pub step-fits : {h : House} → Fits h → (q : Request) → FitRequest q → Fits (stepped h q .house) × FitReply (stepped h q .reply)
@@ -170,6 +187,7 @@ opening-fits levels = opening-cases Fits levels (λ K. opened-fits levels) (open
           sizes = opened-sizes l;
           items = λ i a. rw (opened-item l i a) (record { value = omega arith; version = omega arith });
           pending = λ i a. rw (opened-pending l i a) (omega arith);
+          tickets = λ p b. rw (opened-place l p b) (omega arith);
           next = λ k b. rw (opened-next l k b) (omega arith);
         }
 

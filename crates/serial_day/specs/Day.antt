@@ -38,9 +38,9 @@ day =
     ∷ event write 0 0 1 8 0 0 0
     ∷ event read 0 0 1 0 0 8 1
     ∷ event write 0 1 2 5 0 0 0
-    -- ticket 1 certifies, so level 2 is signalled, and ticket 2 is delayed
+    -- ticket 1 certifies, so level 2 is signalled, and ticket 2 is delayed: ticket 1 of level 0 holds it
     ∷ event certify 0 0 1 0 0 0 0
-    ∷ event read 0 0 2 0 1 0 0
+    ∷ event read 0 0 2 0 1 1 0
     -- ticket 1 commits; once more, and nobody has that ticket
     ∷ event commit 0 0 1 0 0 0 0
     ∷ event commit 0 0 1 0 6 0 0

@@ -2,13 +2,15 @@
 
 ghost use mathlib.Core.Path.{_≡_};
 ghost use Rattle.house.specs.Rules.{stepped};
+use house::Answer;
 use house::House;
 use house::Outcome;
 use house::Request;
 use judge::judge;
+use parts::delayed_by;
 use parts::reply_to;
 use perform::perform;
-use ruling::Change;
+use ruling::Ruling;
 use ruling::View;
 
 pub fn step(h: House, q: Request) -> Outcome
@@ -36,14 +38,20 @@ pub fn step(h: House, q: Request) -> Outcome
         pending,
     };
     let ruling = judge(view, &h.cells, q);
-    let answer = ruling.answer;
+    let answer = match ruling {
+        Ruling::Grant(answer, change) => {
+            let reply = reply_to(q, answer);
+            return Outcome {
+                house: perform(h, change),
+                reply,
+            };
+        }
+        Ruling::Wait(p) => {
+            let holder = h.places[p];
+            delayed_by(holder, p)
+        }
+        Ruling::Refuse(number) => Answer::Refused(number),
+    };
     let reply = reply_to(q, answer);
-    let change = ruling.change;
-    if let Change::Nothing = change {
-        return Outcome { house: h, reply };
-    }
-    Outcome {
-        house: perform(h, change),
-        reply,
-    }
+    Outcome { house: h, reply }
 }

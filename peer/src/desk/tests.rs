@@ -1,7 +1,11 @@
-//! The marked examples M1 to M12, the replies that a run cannot reach, and what every run keeps.
+//! The marked examples M1 to M12, who holds what is delayed, the replies that a run cannot reach, and
+//! what every run keeps.
 
 use super::*;
+use crate::bytes::input_of;
 use crate::generator::Generator;
+use crate::run::opened;
+use crate::wire::{requests_in, split_header};
 
 fn request(operation: Operation, level: u8, ticket: u32) -> Request {
     Request { operation: operation.number(), level, ticket, ..Request::default() }
@@ -37,10 +41,17 @@ fn house() -> Desk {
     desk
 }
 
+/// The holder by ticket and level, as the reply of a delay carries them.
+fn holder_in(reply: &Reply) -> (u32, u32) {
+    assert_eq!(reply.number, 1);
+    (reply.value, reply.version)
+}
+
 fn after_m8() -> Desk {
     let mut desk = house();
     assert_eq!(write(&mut desk, 0, 1, 0, 7), 0);
-    assert_eq!(write(&mut desk, 0, 2, 0, 8), 1);
+    let second = Request { value: 8, ..request(Operation::Write, 0, 2) };
+    assert_eq!(holder_in(&desk.answer(&second)), (1, 0));
     desk
 }
 
@@ -48,7 +59,7 @@ fn after_m9() -> Desk {
     let mut desk = after_m8();
     let reply = read(&mut desk, 0, 2, 0);
     assert_eq!((reply.number, reply.value, reply.version), (0, 0, 0));
-    assert_eq!(plain(&mut desk, Operation::Certify, 0, 1), 1);
+    assert_eq!(holder_in(&desk.answer(&request(Operation::Certify, 0, 1))), (2, 0));
     desk
 }
 
@@ -198,6 +209,64 @@ fn certify_takes_all_or_none() {
     assert_eq!(desk, before);
 }
 
+/// The last request of these lines of words, and the house that the others leave, which are done.
+pub fn house_and_last(lines: &str) -> (Desk, Request) {
+    let input = input_of(lines).expect("lines that make an input");
+    let (header, requests) = split_header(&input);
+    let mut desk = opened(header).expect("a house that opens");
+    let mut requests: Vec<Request> = requests_in(requests).collect();
+    let last = requests.pop().expect("a request");
+    for request in requests {
+        assert_eq!(desk.answer(&request).number, 0, "{lines}: {request:?}");
+    }
+    (desk, last)
+}
+
+/// The holder that the last of these requests is told; two items are at level 0, one at level 1.
+fn holder(requests: &str) -> (u32, u32) {
+    let open = "open 0 0 1\nbegin 0\nbegin 0\nbegin 0\nbegin 0\nbegin 1\nbegin 1\nbegin 1\n";
+    let (mut desk, last) = house_and_last(&format!("{open}{}", requests.replace("; ", "\n")));
+    let reply = desk.answer(&last);
+    let repeated = Reply { number: 0, value: 0, version: 0, ..reply };
+    assert_eq!(repeated, Reply::repeating(&last), "all else is as it was before CR 5");
+    holder_in(&reply)
+}
+
+#[test]
+fn a_delay_names_whoever_holds_it() {
+    let taken = "write 1 #3 item 2 = 7; ";
+    assert_eq!(holder(&format!("{taken}write 1 #2 item 2 = 8")), (3, 1), "ticket, then level");
+    assert_eq!(holder(&format!("{taken}certify 1 #3; write 1 #2 item 2 = 8")), (3, 1));
+    assert_eq!(holder(&format!("{taken}certify 1 #3; read 1 #1 item 2")), (3, 1));
+    assert_eq!(holder(&format!("{taken}read 1 #2 item 2; certify 1 #3")), (2, 1));
+}
+
+#[test]
+fn a_reader_above_is_told_the_holder_and_its_level() {
+    assert_eq!(holder("write 0 #4 item 0 = 7; certify 0 #4; read 1 #2 item 0"), (4, 0));
+}
+
+#[test]
+fn of_several_the_lowest_item_and_then_the_lowest_place_is_named() {
+    let written = "write 0 #3 item 0 = 7; write 0 #3 item 1 = 8; ";
+    let certify = |reads: &str| holder(&format!("{written}{reads}; certify 0 #3"));
+    assert_eq!(certify("read 0 #4 item 0; read 0 #2 item 0"), (2, 0), "the lowest place");
+    assert_eq!(certify("read 0 #1 item 1; read 0 #4 item 0"), (4, 0), "the lowest item first");
+    assert_eq!(certify("read 0 #1 item 1; read 0 #4 item 0; read 0 #2 item 0"), (2, 0));
+    // Tickets say nothing of places: ticket 5 comes to stand at the first.
+    assert_eq!(certify("abort 0 #1; begin 0; read 0 #2 item 0; read 0 #5 item 0"), (5, 0));
+}
+
+#[test]
+fn neither_the_asker_nor_a_reader_above_is_named() {
+    let written = "write 0 #1 item 0 = 7; write 0 #1 item 1 = 8; ";
+    let certify = |reads: &str| holder(&format!("{written}{reads}; certify 0 #1"));
+    assert_eq!(certify("read 0 #1 item 0; read 0 #3 item 0"), (3, 0));
+    assert_eq!(certify("read 0 #1 item 0; read 0 #3 item 1"), (3, 0));
+    assert_eq!(certify("read 1 #2 item 0; read 0 #3 item 0"), (3, 0));
+    assert_eq!(certify("read 1 #2 item 0; read 0 #3 item 1"), (3, 0));
+}
+
 #[test]
 fn openings() {
     assert_eq!(Desk::open(&[]), Err(Refusal::ItemCount));
@@ -226,6 +295,58 @@ fn is_undisturbed(desk: &Desk, request: &Request) -> bool {
     desk.places.iter().filter(near).all(|p| (p.level, p.ticket) == (request.level, request.ticket))
 }
 
+/// The locks of the matrix, in its order.
+#[derive(Clone, Copy)]
+enum Lock {
+    Read,
+    Write,
+    Signal,
+    Certify,
+}
+
+/// The matrix of document 01, requested by granted.
+const GOES_WITH: [[bool; 4]; 4] = [
+    [true, true, true, false],
+    [true, false, true, false],
+    [true, true, true, false],
+    [false, false, true, false],
+];
+
+/// The lock that the request asks for on the item, if any.
+fn requested(desk: &Desk, request: &Request, me: &Place, item: usize) -> Option<Lock> {
+    let is_below = desk.items[item].level < me.level;
+    let is_named = item == usize::from(request.item);
+    match Operation::ALL[usize::from(request.operation)] {
+        Operation::Read if is_named && is_below => Some(Lock::Signal),
+        Operation::Read if is_named => Some(Lock::Read),
+        Operation::Write if is_named => Some(Lock::Write),
+        Operation::Certify if me.cell(item).write => Some(Lock::Certify),
+        _ => None,
+    }
+}
+
+/// Whether a place has a lock on the item that does not go with the one requested.
+fn is_refused_by(desk: &Desk, place: &Place, item: usize, requested: Lock) -> bool {
+    let Cell { read, write, certify, .. } = place.cell(item);
+    let is_below = desk.items[item].level < place.level;
+    let granted = [read && !is_below, write, read && is_below, certify];
+    granted.iter().zip(GOES_WITH[requested as usize]).any(|(granted, goes)| *granted && !goes)
+}
+
+/// The holder by the matrix: on the lowest item, at the lowest place.
+fn holder_by_matrix(desk: &Desk, request: &Request) -> Option<(u32, u32)> {
+    let me = &desk.places[desk.find(request.level, request.ticket).ok()?];
+    for item in 0..desk.items.len() {
+        let Some(lock) = requested(desk, request, me, item) else { continue };
+        for place in desk.places.iter().filter(|place| *place != me) {
+            if is_refused_by(desk, place, item, lock) {
+                return Some((place.ticket, place.level.into()));
+            }
+        }
+    }
+    None
+}
+
 #[test]
 fn every_run_keeps_the_house_in_order() {
     for seed in 0..40 {
@@ -236,7 +357,12 @@ fn every_run_keeps_the_house_in_order() {
             let before = desk.clone();
             let reply = desk.answer(&request);
             assert!(reply.number == 0 || desk == before, "a refusal changed the house");
-            assert!(reply.number != 1 || !is_undisturbed(&before, &request), "delayed alone");
+            if reply.number == 1 {
+                assert!(!is_undisturbed(&before, &request), "delayed alone");
+                let named = holder_in(&reply);
+                assert_eq!(Some(named), holder_by_matrix(&before, &request), "not by the matrix");
+                assert!(named.1 <= request.level.into(), "the holder is above the asker");
+            }
             check_house(&desk);
         }
         assert_eq!(desk, *generator.desk());

@@ -10,9 +10,6 @@ use Rattle.judge.proofs.judge.Tie as tie
 no-operation-requires : tie.Need-no-operation-requires
 no-operation-requires c κs = search needs
 
-refuse-requires : tie.Need-refuse-requires
-refuse-requires c κs = search needs
-
 returns : tie.Need-returns
 unfolding shownRuled
 returns c = search (followed, judged) depth 20
@@ -20,18 +17,12 @@ returns c = search (followed, judged) depth 20
 no-level-requires : tie.Need-no-level-requires
 no-level-requires c κs = search needs
 
-refuse-requires-2 : tie.Need-refuse-requires-2
-refuse-requires-2 c κs = search needs
-
 returns-2 : tie.Need-returns-2
 unfolding shownRuled
 returns-2 c = search (followed, judged) depth 20
 
 unused-set-requires : tie.Need-unused-set-requires
 unused-set-requires c κs = search needs
-
-refuse-requires-3 : tie.Need-refuse-requires-3
-refuse-requires-3 c κs = search needs
 
 returns-3 : tie.Need-returns-3
 unfolding shownRuled
@@ -55,9 +46,6 @@ enum-known-k c = search needs
 
 enum-told : tie.Need-enum-told
 enum-told c = search needs
-
-refuse-requires-4 : tie.Need-refuse-requires-4
-refuse-requires-4 c κs = search needs
 
 returns-5 : tie.Need-returns-5
 unfolding shownRuled
@@ -87,13 +75,10 @@ judge-spec =
     tie.close
     (tie.spec
     no-operation-requires
-    refuse-requires
     returns
     no-level-requires
-    refuse-requires-2
     returns-2
     unused-set-requires
-    refuse-requires-3
     returns-3
     cast-level
     judge-begin-requires
@@ -101,7 +86,6 @@ judge-spec =
     lookup-requires
     enum-known-k
     enum-told
-    refuse-requires-4
     returns-5
     mul-seat
     array-copy-out-seat

@@ -14,15 +14,9 @@ enum-known-k c = search needs
 enum-told : tie.Need-enum-told
 enum-told c = search needs
 
-refuse-requires : tie.Need-refuse-requires
-refuse-requires c κs = search needs
-
 returns : tie.Need-returns
 unfolding beginRuled
 returns c = search followed
-
-refuse-requires-2 : tie.Need-refuse-requires-2
-refuse-requires-2 c κs = search needs
 
 returns-2 : tie.Need-returns-2
 unfolding beginRuled
@@ -34,8 +28,8 @@ mul-first c = search needs
 add-me : tie.Need-add-me
 add-me c = search (freed, place-fits)
 
-allow-requires : tie.Need-allow-requires
-allow-requires c κs = search needs
+grant-requires : tie.Need-grant-requires
+grant-requires c κs = search needs
 
 returns-3 : tie.Need-returns-3
 unfolding beginRuled
@@ -48,11 +42,9 @@ judge-begin-spec =
     lowest-free-requires
     enum-known-k
     enum-told
-    refuse-requires
     returns
-    refuse-requires-2
     returns-2
     mul-first
     add-me
-    allow-requires
+    grant-requires
     returns-3)

@@ -1,14 +1,12 @@
 use borrow.Author.Needs.{needs}
 use Rattle.house.proofs.Branches.{followed}
+use Rattle.judge.proofs.Laws.{near, hindered, held-there, held-nowhere}
 use Rattle.ruling.specs.Judged.{certifyRuled}
 use Rattle.judge.proofs.judge_certify.Statement.{statement}
 use Rattle.judge.proofs.judge_certify.Tie as tie
 
 is-signalled-requires : tie.Need-is-signalled-requires
 is-signalled-requires c κs = search needs
-
-refuse-requires : tie.Need-refuse-requires
-refuse-requires c κs = search needs
 
 returns : tie.Need-returns
 unfolding certifyRuled
@@ -17,42 +15,45 @@ returns c = search followed
 is-certified-requires : tie.Need-is-certified-requires
 is-certified-requires c κs = search needs
 
-refuse-requires-2 : tie.Need-refuse-requires-2
-refuse-requires-2 c κs = search needs
-
 returns-2 : tie.Need-returns-2
 unfolding certifyRuled
 returns-2 c = search followed
 
-must-wait-requires : tie.Need-must-wait-requires
-must-wait-requires c κs = search needs
+first-awaited-requires : tie.Need-first-awaited-requires
+first-awaited-requires c κs = search needs
 
-refuse-requires-3 : tie.Need-refuse-requires-3
-refuse-requires-3 c κs = search needs
+enum-known-awaited : tie.Need-enum-known-awaited
+enum-known-awaited c = search needs
+
+lowest-holder-requires : tie.Need-lowest-holder-requires
+lowest-holder-requires c κs = search (needs, near, hindered)
 
 returns-3 : tie.Need-returns-3
 unfolding certifyRuled
-returns-3 c = search followed
+returns-3 c = search (followed, held-there)
 
-allow-requires : tie.Need-allow-requires
-allow-requires c κs = search needs
+enum-told : tie.Need-enum-told
+enum-told c = search needs
+
+grant-requires : tie.Need-grant-requires
+grant-requires c κs = search needs
 
 returns-4 : tie.Need-returns-4
 unfolding certifyRuled
-returns-4 c = search followed
+returns-4 c = search (followed, held-nowhere)
 
 pub judge-certify-spec : {M : Type 1} → statement M
 judge-certify-spec =
     tie.close
     (tie.spec
     is-signalled-requires
-    refuse-requires
     returns
     is-certified-requires
-    refuse-requires-2
     returns-2
-    must-wait-requires
-    refuse-requires-3
+    first-awaited-requires
+    enum-known-awaited
+    lowest-holder-requires
     returns-3
-    allow-requires
+    enum-told
+    grant-requires
     returns-4)

@@ -19,14 +19,14 @@ judge-certify-requires c κs = search needs
 judge-commit-requires : tie.Need-judge-commit-requires
 judge-commit-requires c κs = search needs
 
-allow-requires : tie.Need-allow-requires
-allow-requires c κs = search needs
+grant-requires : tie.Need-grant-requires
+grant-requires c κs = search needs
 
 answer-ask-requires : tie.Need-answer-ask-requires
 answer-ask-requires c κs = search needs
 
-allow-requires-2 : tie.Need-allow-requires-2
-allow-requires-2 c κs = search needs
+grant-requires-2 : tie.Need-grant-requires-2
+grant-requires-2 c κs = search needs
 
 returns : tie.Need-returns
 unfolding knownRuled
@@ -60,9 +60,9 @@ judge-known-spec =
     judge-write-requires
     judge-certify-requires
     judge-commit-requires
-    allow-requires
+    grant-requires
     answer-ask-requires
-    allow-requires-2
+    grant-requires-2
     returns
     returns-2
     returns-3

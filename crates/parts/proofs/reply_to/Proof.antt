@@ -19,14 +19,14 @@ enum-known-answer c = search needs
 say-requires : tie.Need-say-requires
 say-requires c κs = search needs
 
-enum-told : tie.Need-enum-told
-enum-told c = search needs
+enum-known-answer-2 : tie.Need-enum-known-answer-2
+enum-known-answer-2 c = search needs
 
 say-requires-2 : tie.Need-say-requires-2
 say-requires-2 c κs = search needs
 
-enum-known-answer-2 : tie.Need-enum-known-answer-2
-enum-known-answer-2 c = search needs
+enum-told : tie.Need-enum-told
+enum-told c = search needs
 
 say-requires-3 : tie.Need-say-requires-3
 say-requires-3 c κs = search needs
@@ -43,6 +43,12 @@ enum-known-answer-4 c = search needs
 say-requires-5 : tie.Need-say-requires-5
 say-requires-5 c κs = search needs
 
+enum-known-answer-5 : tie.Need-enum-known-answer-5
+enum-known-answer-5 c = search needs
+
+say-requires-6 : tie.Need-say-requires-6
+say-requires-6 c κs = search needs
+
 returns : tie.Need-returns
 returns c = search found
 
@@ -58,22 +64,28 @@ returns-4 c = search found
 returns-5 : tie.Need-returns-5
 returns-5 c = search found
 
+returns-6 : tie.Need-returns-6
+returns-6 c = search found
+
 pub reply-to-spec : {M : Type 1} → statement M
 reply-to-spec =
     tie.close
     (tie.spec
     enum-known-answer
     say-requires
-    enum-told
-    say-requires-2
     enum-known-answer-2
+    say-requires-2
+    enum-told
     say-requires-3
     enum-known-answer-3
     say-requires-4
     enum-known-answer-4
     say-requires-5
+    enum-known-answer-5
+    say-requires-6
     returns
     returns-2
     returns-3
     returns-4
-    returns-5)
+    returns-5
+    returns-6)

@@ -1,9 +1,16 @@
--- What is read of the house for the judge is in its bounds; what the judge, the reply and `perform` promise is the step, by the laws of one
--- request (`Requests`).
+-- What is read of the house for the judge is in its bounds, and so is the holder's place (`waits`); what the judge, the reply and `perform`
+-- promise is the step, by the laws of one request (`Requests`). A refusal and a delay have met where their reply is made.
+use Prim.Native.Nat.{_<_}
+use native.Mathlib.Omega.{arith}
+use mathlib.Core.Logic.{⊎-elim}
+use mathlib.Core.Path.{_∙_}
 use borrow.Author.Needs.{needs}
-use Rattle.step.proofs.Requests.{unchanged, changed}
+use Rattle.step.proofs.Requests.{holder-there, refused, delayed, granted}
 use Rattle.step.proofs.step.Statement.{statement}
 use Rattle.step.proofs.step.Tie as tie
+
+waits : (c : tie.After-ruling2) → c .ruling2 .given .0 .0 < 32
+waits c = search holder-there
 
 cast-level : tie.Need-cast-level
 cast-level c = search needs
@@ -104,20 +111,38 @@ element-copy-out-p7 c = search needs
 judge-requires : tie.Need-judge-requires
 judge-requires c κs = search needs
 
+enum-known-ruling : tie.Need-enum-known-ruling
+enum-known-ruling c = search needs
+
 reply-to-requires : tie.Need-reply-to-requires
 reply-to-requires c κs = search needs
-
-enum-told : tie.Need-enum-told
-enum-told c = search needs
-
-returns : tie.Need-returns
-returns c = search unchanged
 
 perform-requires : tie.Need-perform-requires
 perform-requires c κs = search needs
 
+returns : tie.Need-returns
+returns c = search granted
+
+enum-known-ruling-2 : tie.Need-enum-known-ruling-2
+enum-known-ruling-2 c = search needs
+
+mul-holder : tie.Need-mul-holder
+mul-holder c = omega (arith, waits (search))
+
+element-copy-out-holder : tie.Need-element-copy-out-holder
+element-copy-out-holder c = omega (arith, waits (search))
+
+delayed-by-requires : tie.Need-delayed-by-requires
+delayed-by-requires c κs = search needs
+
+enum-known-ruling-3 : tie.Need-enum-known-ruling-3
+enum-known-ruling-3 c = search needs
+
+reply-to-requires-2 : tie.Need-reply-to-requires-2
+reply-to-requires-2 c κs = search needs
+
 returns-2 : tie.Need-returns-2
-returns-2 c = search changed
+returns-2 c = ⊎-elim (λ w. let told = w .5 ∙ w .4 .ensures in search delayed) (λ w. search refused) (c .before .match .came)
 
 pub step-spec : {M : Type 1} → statement M
 step-spec =
@@ -156,8 +181,14 @@ step-spec =
     mul-p7
     element-copy-out-p7
     judge-requires
+    enum-known-ruling
     reply-to-requires
-    enum-told
-    returns
     perform-requires
+    returns
+    enum-known-ruling-2
+    mul-holder
+    element-copy-out-holder
+    delayed-by-requires
+    enum-known-ruling-3
+    reply-to-requires-2
     returns-2)

@@ -1,29 +1,35 @@
--- The laws of a turn (`Requests`) say what a round does once its change is made (`more`); each arm is a law of its change (`Changes`). What
--- they go by, `search` finds; a place far back is found by its type.
-use Prim.Native.Nat.{ℕ, _+_, _-_, _%_, _<_, _≤_}
+-- The reply is written by the ruling's three ways, which meet (`told`); then the laws of a turn say what a round does once its change is
+-- made (`more`), and each arm is a law of its change (`Changes`). What they go by, `search` finds; a place far back is found by its type.
+use Prim.Native.Nat.{ℕ, _+_, _-_, _*_, _%_, _<_, _≤_}
 use native.Mathlib.Omega.{arith}
 use mathlib.Core.Bool.{true}
 use mathlib.Core.List.{List}
-use mathlib.Core.Logic.{⊎-elim}
-use mathlib.Core.Path.{_≡_, refl}
+use mathlib.Core.Logic.{_⊎_, ⊎-elim}
+use mathlib.Core.Path.{_≡_, refl, sym, ap, _∙_}
 use lib.ListN.{length}
+use lib.Seq.{paste}
 use borrow.Author.Needs.{needs}
 use Rattle.house.proofs.Lists.{length-mapped}
 use Rattle.house.specs.House.{Sizes, vacant, withItems, withPending, withPlace, withCells}
-use Rattle.house.specs.Rules.{clearedCell}
+use Rattle.house.specs.Rules.{clearedCell, replied}
 use Rattle.house.specs.Run.{finally, replies}
 use Rattle.house.specs.declared.House.{House}
 use Rattle.house.specs.declared.Place.{Place}
+use Rattle.house.specs.declared.Reply.{Reply}
+use Rattle.house.specs.declared.Request.{Request}
+use Rattle.ruling.proofs.Judged.{viewOf}
 use Rattle.ruling.proofs.Steps.{stepped-sizes}
-use Rattle.ruling.specs.Ruling.{fits, effect}
+use Rattle.ruling.specs.Judged.{Judged}
+use Rattle.ruling.specs.Ruling.{fits, effect, answerOf, changeOf}
 use Rattle.ruling.specs.declared.Change.{Change}
+use Rattle.ruling.specs.declared.Ruling.{Ruling}
 use Rattle.sweeps.specs.Sweep.{swept}
 use Rattle.sweeps.proofs.Changes.{begin-there, write-there, certify-there, end-there, kept-is, begun-is, read-is, written-is, certified-is, ended-is, went, passed}
-use Rattle.desk.proofs.Laws.{turned-at, answered-at, finally-keeps}
-use Rattle.step.proofs.Requests.{fit}
-use Rattle.desk.proofs.Requests.{housed-made, written-made}
+use Rattle.desk.proofs.Laws.{housed-more, written-more, turned-at, answered-at, finally-keeps}
+use Rattle.step.proofs.Requests.{holder-there, change-there, stepping, refusing, delaying, granting}
 use Rattle.desk.proofs.in_place.turn_in_place.Statement.{statement}
 use Rattle.desk.proofs.in_place.turn_in_place.Tie as tie
+use Rattle.wire.specs.Wire.{replyBytes}
 use Rattle.desk.specs.Turn.{requests, wired, housed, written}
 
 abbrev Inv-loop : tie.InvT-loop
@@ -32,43 +38,95 @@ Inv-loop requests replies₀ most count h₀ n₀ replies h n = (n ≤ count) ×
 abbrev μ-loop : tie.MeasureT-loop
 μ-loop requests replies₀ most count h₀ n₀ replies h n = count - n
 
--- A round, seen from where its reply is written: where the judge has ruled, where the request was read, where the round began, and what
--- was lent to the turn. Each place has a type of its own, by which it is found, whatever stands between.
-abbrev judged : tie.After-slice-known2 Inv-loop μ-loop → tie.After-judge Inv-loop μ-loop
-judged c = search
-
+-- A round, seen from where the judge has ruled: where the request was read, where the round began, and what was lent to the turn. Each place
+-- has a type of its own, by which it is found, whatever stands between.
 abbrev asked : tie.After-judge Inv-loop μ-loop → tie.After-request-at Inv-loop μ-loop
 asked c = search
 
-abbrev round : tie.After-slice-known2 Inv-loop μ-loop → tie.At-loop Inv-loop μ-loop
-round c = let a = asked (judged c) in search
+abbrev round : tie.After-judge Inv-loop μ-loop → tie.At-loop Inv-loop μ-loop
+round c = let a = asked c in search
 
-abbrev lent : tie.After-slice-known2 Inv-loop μ-loop → tie.Start Inv-loop μ-loop
+abbrev lent : tie.After-judge Inv-loop μ-loop → tie.Start Inv-loop μ-loop
 lent c = let r = round c in search
 
-abbrev held : tie.After-slice-known2 Inv-loop μ-loop → House
+-- the house, the request, and what is ruled of it
+abbrev held : tie.After-judge Inv-loop μ-loop → House
 held c = round c .loop .h
 
-abbrev ruled : tie.After-slice-known2 Inv-loop μ-loop → Change
-ruled c = judged c .judge .result .change
+abbrev query : tie.After-judge Inv-loop μ-loop → Request
+query c = asked c .request-at .result
 
-fitting : (c : tie.After-slice-known2 Inv-loop μ-loop) → fits (ruled c) ≡ true
-fitting c = let r = round c in search fit
+abbrev ruling : tie.After-judge Inv-loop μ-loop → Ruling
+ruling c = c .judge .result
+
+promised : (c : tie.After-judge Inv-loop μ-loop) → Judged (viewOf (held c) (query c)) (held c .cells) (query c) (ruling c)
+promised c = c .judge .ensures
 
 -- the lists are as long as the arrays, from round to round
 came-sized : (c : tie.Start Inv-loop μ-loop) → Sizes (c .args .h)
 came-sized c = record { items = search (needs, length-mapped); pending = search needs; places = search (needs, length-mapped); next = search needs; cells = search needs }
 
-sizes : (c : tie.After-slice-known2 Inv-loop μ-loop) → Sizes (held c)
+sizes : (c : tie.After-judge Inv-loop μ-loop) → Sizes (held c)
 sizes c = rw (round c .loop .inv .2) (finally-keeps Sizes stepped-sizes _ (came-sized (lent c)) _)
 
--- once the change is made, one request more is answered
-more : (c : tie.After-slice-known2 Inv-loop μ-loop) (g : House) → (fits (ruled c) ≡ true → Sizes (held c) → g ≡ effect (held c) (ruled c)) →
-    let l = lent c .args in Inv-loop (l .requests .now) (l .replies .now) (l .most) (round c .before .least2 .result) (l .h) 0 (c .before .before .put-reply .last .0) g (round c .loop .n + 1)
-more c g made = let a = asked (judged c) in let e = made (fitting c) (sizes c) in (omega arith, search needs, search housed-made, search written-made)
+less : (c : tie.After-judge Inv-loop μ-loop) → round c .before .least2 .result - (round c .loop .n + 1) < round c .before .least2 .result - round c .loop .n
+less c = let a = asked c in omega arith
 
-less : (c : tie.After-slice-known2 Inv-loop μ-loop) → round c .before .least2 .result - (round c .loop .n + 1) < round c .before .least2 .result - round c .loop .n
-less c = let a = asked (judged c) in omega arith
+-- the holder's place is there
+waits : (c : tie.After-ruling2 Inv-loop μ-loop) → c .ruling2 .given .0 .0 < 32
+waits c = let j : tie.After-judge Inv-loop μ-loop = search in holder-there (held j) (query j) (ruling j) (promised j) _ (c .ruling2 .given .1)
+
+-- Where the three ways have met: the ruling is the judge's, and the reply to its answer is written
+
+ways : {A B C P : Type 0} → (A → P) → (B → P) → (C → P) → A ⊎ (B ⊎ C) → P
+ways f g h = ⊎-elim f (⊎-elim g h)
+
+same : (a b x : Ruling) → a ≡ x → b ≡ x → a ≡ b
+same a b x p q = p ∙ sym q
+
+still : (c : tie.At-match-came Inv-loop μ-loop) → c .match .ruling ≡ ruling (c .before)
+still c = ways (λ w. search same) (λ w. search same) (λ w. search same) (c .match .came)
+
+pasted : (out last old : List ℕ) (at : ℕ) (a b : Reply) → out ≡ last → last ≡ paste old at (replyBytes a) 16 → a ≡ b → out ≡ paste old at (replyBytes b) 16
+pasted out last old at a b p q e = p ∙ q ∙ rw e
+
+told : (c : tie.At-match-came Inv-loop μ-loop) → let j = c .before in c .match .replies ≡ paste (round j .loop .replies) (round j .loop .n * 16) (replyBytes (replied (query j) (answerOf (held j) (ruling j)))) 16
+told c =
+    let j = c .before in
+    let refused = refusing (held j) (query j) (ruling j) (promised j) in
+    let delayed = delaying (held j) (query j) (ruling j) (promised j) in
+    let granted = granting (held j) (query j) (ruling j) (promised j) in
+    ways (λ w. search (pasted, refused)) (λ w. search (pasted, delayed)) (λ w. search (pasted, granted)) (c .match .came)
+
+as-long : (out last old : List ℕ) → out ≡ last → length last ≡ length old → length out ≡ length old
+as-long out last old p k = ap length p ∙ k
+
+long : (c : tie.At-match-came Inv-loop μ-loop) → length (c .match .replies) ≡ length (round (c .before) .loop .replies)
+long c = ways (λ w. search as-long) (λ w. search as-long) (λ w. search as-long) (c .match .came)
+
+-- A change, seen from where it is told from the ruling
+abbrev judged : tie.After-change-of Inv-loop μ-loop → tie.After-judge Inv-loop μ-loop
+judged c = search
+
+abbrev change : tie.After-change-of Inv-loop μ-loop → Change
+change c = c .change-of .result
+
+ruled : (c : tie.After-change-of Inv-loop μ-loop) → change c ≡ changeOf (ruling (judged c))
+ruled c = c .change-of .ensures ∙ ap changeOf (still (c .before))
+
+fitting : (c : tie.After-change-of Inv-loop μ-loop) → fits (change c) ≡ true
+fitting c = let j = judged c in change-there (held j) (query j) (ruling j) (promised j) _ (ruled c)
+
+-- once it is made, one request more is answered
+more : (c : tie.After-change-of Inv-loop μ-loop) (g : House) → (fits (change c) ≡ true → Sizes (held (judged c)) → g ≡ effect (held (judged c)) (change c)) →
+    let r = round (judged c) in let l = lent (judged c) .args in
+    Inv-loop (l .requests .now) (l .replies .now) (l .most) (r .before .least2 .result) (l .h) 0 (c .before .match .replies) g (r .loop .n + 1)
+more c g made =
+    let j = judged c in
+    let a = asked j in
+    let i = round j .loop .inv in
+    let is = stepping (held j) (query j) (ruling j) (promised j) _ refl g (made (fitting c) (sizes j) ∙ ap (effect (held j)) (ruled c)) in
+    (omega arith, long (c .before) ∙ i .1, housed-more _ _ _ _ _ _ is (i .2) (a .request-at .ensures) _ refl, written-more _ _ _ _ _ _ is (i .2) (a .request-at .ensures) _ _ _ (i .3) (told (c .before)))
 
 -- what the change names is there
 
@@ -89,17 +147,17 @@ ends c = end-there _ (fitting (search)) _ _ (c .change5 .given .1)
 abbrev ending : tie.Joined2 Inv-loop μ-loop → tie.After-change5 Inv-loop μ-loop
 ending c = search
 
-abbrev whose : tie.Joined2 Inv-loop μ-loop → tie.After-slice-known2 Inv-loop μ-loop
+abbrev whose : tie.Joined2 Inv-loop μ-loop → tie.After-change-of Inv-loop μ-loop
 whose c = search
 
 ended : (c : tie.Joined2 Inv-loop μ-loop) → let me = ending c .change5 .given .0 .0 in let h = c .if2 .h in
-    (cells : List ℕ) → cells ≡ swept (clearedCell (me % 32)) (h .cells) → (place : Place) → place ≡ vacant → withPlace (withCells h cells) me place ≡ effect (held (whose c)) (ruled (whose c))
+    (cells : List ℕ) → cells ≡ swept (clearedCell (me % 32)) (h .cells) → (place : Place) → place ≡ vacant → withPlace (withCells h cells) me place ≡ effect (held (judged (whose c))) (change (whose c))
 ended c =
     let k : tie.After-has-claimed Inv-loop μ-loop = search in
     let i : tie.Joined1 Inv-loop μ-loop = search in
-    let items = withItems (held (whose c)) in
+    let items = withItems (held (judged (whose c))) in
     let pending = withPending (i .if1 .h) in
-    ended-is _ (fitting (whose c)) _ (sizes (whose c)) _ _ (ending c .change5 .given .1) _ (k .has-claimed .ensures)
+    ended-is _ (fitting (whose c)) _ (sizes (judged (whose c))) _ _ (ending c .change5 .given .1) _ (k .has-claimed .ensures)
     (i .if1 .h) (⊎-elim (λ w. search (went items)) (λ w. search (passed items)) (i .if1 .came))
     (c .if2 .h) (⊎-elim (λ w. search (went pending)) (λ w. search (passed pending)) (c .if2 .came))
 
@@ -218,23 +276,56 @@ element-copy-out-p7 c = search needs
 judge-requires : tie.Need-judge-requires Inv-loop μ-loop
 judge-requires c κs = search needs
 
-mul-put-reply : tie.Need-mul-put-reply Inv-loop μ-loop
-mul-put-reply c = let a = asked (c .before) in search needs
+mul-at : tie.Need-mul-at Inv-loop μ-loop
+mul-at c = let a = asked c in search needs
+
+enum-known-ruling : tie.Need-enum-known-ruling Inv-loop μ-loop
+enum-known-ruling c = search needs
 
 reply-to-requires : tie.Need-reply-to-requires Inv-loop μ-loop
 reply-to-requires c κs = search needs
 
 put-reply-requires : tie.Need-put-reply-requires Inv-loop μ-loop
-put-reply-requires c κs = let a = asked (c .before .before) in search needs
+put-reply-requires c κs = let j : tie.After-judge Inv-loop μ-loop = search in let a = asked j in search needs
+
+enum-known-ruling-2 : tie.Need-enum-known-ruling-2 Inv-loop μ-loop
+enum-known-ruling-2 c = search needs
+
+mul-holder : tie.Need-mul-holder Inv-loop μ-loop
+mul-holder c = omega (arith, waits (search))
+
+element-copy-out-holder : tie.Need-element-copy-out-holder Inv-loop μ-loop
+element-copy-out-holder c = omega (arith, waits (search))
+
+delayed-by-requires : tie.Need-delayed-by-requires Inv-loop μ-loop
+delayed-by-requires c κs = search needs
+
+reply-to-requires-2 : tie.Need-reply-to-requires-2 Inv-loop μ-loop
+reply-to-requires-2 c κs = search needs
+
+put-reply-requires-2 : tie.Need-put-reply-requires-2 Inv-loop μ-loop
+put-reply-requires-2 c κs = let j : tie.After-judge Inv-loop μ-loop = search in let a = asked j in search needs
+
+enum-known-ruling-3 : tie.Need-enum-known-ruling-3 Inv-loop μ-loop
+enum-known-ruling-3 c = search needs
+
+reply-to-requires-3 : tie.Need-reply-to-requires-3 Inv-loop μ-loop
+reply-to-requires-3 c κs = search needs
+
+put-reply-requires-3 : tie.Need-put-reply-requires-3 Inv-loop μ-loop
+put-reply-requires-3 c κs = let j : tie.After-judge Inv-loop μ-loop = search in let a = asked j in search needs
 
 add-n : tie.Need-add-n Inv-loop μ-loop
-add-n c = let a = asked (judged c) in search needs
+add-n c = let a = asked (c .before) in search needs
+
+change-of-requires : tie.Need-change-of-requires Inv-loop μ-loop
+change-of-requires c κs = search needs
 
 enum-told : tie.Need-enum-told Inv-loop μ-loop
 enum-told c = search needs
 
 loop-less : tie.Need-loop-less Inv-loop μ-loop
-loop-less c = less (search)
+loop-less c = less (judged (search))
 
 loop-again : tie.Need-loop-again Inv-loop μ-loop
 loop-again c = more (search) _ (search kept-is)
@@ -267,7 +358,7 @@ element-write-h : tie.Need-element-write-h Inv-loop μ-loop
 element-write-h c = omega (arith, begins (search))
 
 loop-less-2 : tie.Need-loop-less-2 Inv-loop μ-loop
-loop-less-2 c = less (search)
+loop-less-2 c = less (judged (search))
 
 loop-again-2 : tie.Need-loop-again-2 Inv-loop μ-loop
 loop-again-2 c = more (search) _ (search begun-is)
@@ -279,7 +370,7 @@ mark-cell-requires : tie.Need-mark-cell-requires Inv-loop μ-loop
 mark-cell-requires c κs = search needs
 
 loop-less-3 : tie.Need-loop-less-3 Inv-loop μ-loop
-loop-less-3 c = less (search)
+loop-less-3 c = less (judged (search))
 
 loop-again-3 : tie.Need-loop-again-3 Inv-loop μ-loop
 loop-again-3 c = more (search) _ (search read-is)
@@ -297,7 +388,7 @@ element-write-h-2 : tie.Need-element-write-h-2 Inv-loop μ-loop
 element-write-h-2 c = omega (arith, writes (search))
 
 loop-less-4 : tie.Need-loop-less-4 Inv-loop μ-loop
-loop-less-4 c = less (search)
+loop-less-4 c = less (judged (search))
 
 loop-again-4 : tie.Need-loop-again-4 Inv-loop μ-loop
 loop-again-4 c = more (search) _ (search written-is)
@@ -324,7 +415,7 @@ element-set-from-seat : tie.Need-element-set-from-seat Inv-loop μ-loop
 element-set-from-seat c = omega (arith, certifies (search))
 
 loop-less-5 : tie.Need-loop-less-5 Inv-loop μ-loop
-loop-less-5 c = less (search)
+loop-less-5 c = less (judged (search))
 
 loop-again-5 : tie.Need-loop-again-5 Inv-loop μ-loop
 loop-again-5 c = more (search) _ (search certified-is)
@@ -354,7 +445,7 @@ element-set-from-left : tie.Need-element-set-from-left Inv-loop μ-loop
 element-set-from-left c = omega (arith, ends (search))
 
 loop-less-6 : tie.Need-loop-less-6 Inv-loop μ-loop
-loop-less-6 c = less (search)
+loop-less-6 c = less (judged (search))
 
 loop-again-6 : tie.Need-loop-again-6 Inv-loop μ-loop
 loop-again-6 c = more (search) _ (search (ended (search)))
@@ -409,10 +500,21 @@ turn-in-place-spec =
     mul-p7
     element-copy-out-p7
     judge-requires
-    mul-put-reply
+    mul-at
+    enum-known-ruling
     reply-to-requires
     put-reply-requires
+    enum-known-ruling-2
+    mul-holder
+    element-copy-out-holder
+    delayed-by-requires
+    reply-to-requires-2
+    put-reply-requires-2
+    enum-known-ruling-3
+    reply-to-requires-3
+    put-reply-requires-3
     add-n
+    change-of-requires
     enum-told
     loop-less
     loop-again

@@ -1,4 +1,5 @@
 use borrow.Author.Needs.{needs}
+use Rattle.house.specs.Rules.{anotherClaims}
 use Rattle.judge.proofs.scans.another_claims.Statement.{statement}
 use Rattle.judge.proofs.scans.another_claims.Tie as tie
 
@@ -9,6 +10,7 @@ another-holds-requires-2 : tie.Need-another-holds-requires-2
 another-holds-requires-2 c κs = search needs
 
 returns : tie.Need-returns
+unfolding anotherClaims
 returns c = rw (c .before .another-holds .ensures, c .another-holds2 .ensures)
 
 pub another-claims-spec : {M : Type 1} → statement M

@@ -1,9 +1,5 @@
-use mathlib.Core.Bool.{_||_}
-use mathlib.Core.Path.{sym, ap₂, _∙_}
 use borrow.Author.Needs.{needs}
-use Rattle.house.proofs.Tests.{or-false}
-use Rattle.house.proofs.Searches.{any-or}
-use Rattle.house.proofs.Cells.{others-only}
+use Rattle.judge.proofs.Laws.{others-claim}
 use Rattle.judge.proofs.scans.other_claims.Statement.{statement}
 use Rattle.judge.proofs.scans.other_claims.Tie as tie
 
@@ -20,8 +16,7 @@ returns : tie.Need-returns
 returns c = search needs
 
 returns-2 : tie.Need-returns-2
-returns-2 c = let none = or-false _ _ (sym (c .before .before .claims .ensures) ∙ c .before .if1 .left) in
-    c .anybody-claims .ensures ∙ sym (ap₂ _||_ (others-only _ _ _ _ (none .0)) (others-only _ _ _ _ (none .1)) ∙ any-or _ _ _ _)
+returns-2 c = search others-claim
 
 pub other-claims-spec : {M : Type 1} → statement M
 other-claims-spec =

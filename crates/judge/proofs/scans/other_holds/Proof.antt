@@ -1,6 +1,5 @@
-use mathlib.Core.Path.{sym, _∙_}
 use borrow.Author.Needs.{needs}
-use Rattle.house.proofs.Cells.{others-only}
+use Rattle.judge.proofs.Laws.{others-hold}
 use Rattle.judge.proofs.scans.other_holds.Statement.{statement}
 use Rattle.judge.proofs.scans.other_holds.Tie as tie
 
@@ -17,7 +16,7 @@ returns : tie.Need-returns
 returns c = search needs
 
 returns-2 : tie.Need-returns-2
-returns-2 c = c .anybody-holds .ensures ∙ sym (others-only _ _ _ _ (sym (c .before .before .holds-mark .ensures) ∙ c .before .if1 .left))
+returns-2 c = search others-hold
 
 pub other-holds-spec : {M : Type 1} → statement M
 other-holds-spec =

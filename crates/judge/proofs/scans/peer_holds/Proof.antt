@@ -3,13 +3,13 @@ use mathlib.Core.Bool.{_||_}
 use mathlib.Core.Path.{_≡_, refl}
 use borrow.Author.Needs.{needs}
 use Rattle.house.proofs.Searches.{started, searched}
-use Rattle.house.specs.Cell.{anotherHolds, peerHolds}
+use Rattle.house.specs.Cell.{anotherHolds}
 use Rattle.house.specs.Search.{any}
 use Rattle.judge.proofs.scans.peer_holds.Statement.{statement}
 use Rattle.judge.proofs.scans.peer_holds.Tie as tie
 
 abbrev Inv-loop : tie.InvT-loop
-Inv-loop cells m me i from hit₀ p₀ p-end hit p = (p-end ≡ me / 8 * 8 + 8) × (peerHolds cells m me i ≡ (hit || any (anotherHolds cells m me i) p (me / 8 * 8 + 8 - p)))
+Inv-loop cells m me i from hit₀ p₀ p-end hit p = (p-end ≡ me / 8 * 8 + 8) × (any (anotherHolds cells m me i) (me / 8 * 8) 8 ≡ (hit || any (anotherHolds cells m me i) p (me / 8 * 8 + 8 - p)))
 
 abbrev μ-loop : tie.MeasureT-loop
 μ-loop cells m me i from hit₀ p₀ p-end hit p = me / 8 * 8 + 8 - p
@@ -21,7 +21,6 @@ add-p-end : tie.Need-add-p-end Inv-loop μ-loop
 add-p-end c = search needs
 
 loop-holds : tie.Need-loop-holds Inv-loop μ-loop
-unfolding peerHolds
 loop-holds c = (refl, started _ _ _ _ _ _ refl)
 
 another-holds-requires : tie.Need-another-holds-requires Inv-loop μ-loop

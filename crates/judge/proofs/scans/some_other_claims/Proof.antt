@@ -1,23 +1,21 @@
 use Prim.Native.Nat.{_-_}
 use mathlib.Core.Bool.{_||_}
-use mathlib.Core.Path.{_≡_}
+use mathlib.Core.Path.{_≡_, refl}
 use borrow.Author.Needs.{needs}
-use Rattle.house.proofs.Searches.{any-or, searched}
-use Rattle.house.specs.Cell.{anotherHolds, otherHolds}
+use Rattle.house.proofs.Searches.{searched}
+use Rattle.house.specs.Rules.{anotherClaims}
 use Rattle.house.specs.Search.{any}
-use Rattle.house.specs.declared.Mark.the-variants.{Write, Certify}
 use Rattle.judge.proofs.scans.some_other_claims.Statement.{statement}
 use Rattle.judge.proofs.scans.some_other_claims.Tie as tie
 
 abbrev Inv-loop : tie.InvT-loop
-Inv-loop cells me i hit₀ p₀ hit p = (otherHolds cells Write me i || otherHolds cells Certify me i) ≡ (hit || any (λ p. anotherHolds cells Write me i p || anotherHolds cells Certify me i p) p (32 - p))
+Inv-loop cells me i hit₀ p₀ hit p = any (anotherClaims cells me i) 0 32 ≡ (hit || any (anotherClaims cells me i) p (32 - p))
 
 abbrev μ-loop : tie.MeasureT-loop
 μ-loop cells me i hit₀ p₀ hit p = 32 - p
 
 loop-holds : tie.Need-loop-holds Inv-loop μ-loop
-unfolding otherHolds
-loop-holds c = any-or _ _ _ _
+loop-holds c = refl
 
 another-claims-requires : tie.Need-another-claims-requires Inv-loop μ-loop
 another-claims-requires c κs = search needs

@@ -3,19 +3,18 @@ use mathlib.Core.Bool.{_||_}
 use mathlib.Core.Path.{_≡_, refl}
 use borrow.Author.Needs.{needs}
 use Rattle.house.proofs.Searches.{searched}
-use Rattle.house.specs.Cell.{anotherHolds, otherHolds}
+use Rattle.house.specs.Cell.{anotherHolds}
 use Rattle.house.specs.Search.{any}
 use Rattle.judge.proofs.scans.some_other_holds.Statement.{statement}
 use Rattle.judge.proofs.scans.some_other_holds.Tie as tie
 
 abbrev Inv-loop : tie.InvT-loop
-Inv-loop cells m me i hit₀ p₀ hit p = otherHolds cells m me i ≡ (hit || any (anotherHolds cells m me i) p (32 - p))
+Inv-loop cells m me i hit₀ p₀ hit p = any (anotherHolds cells m me i) 0 32 ≡ (hit || any (anotherHolds cells m me i) p (32 - p))
 
 abbrev μ-loop : tie.MeasureT-loop
 μ-loop cells m me i hit₀ p₀ hit p = 32 - p
 
 loop-holds : tie.Need-loop-holds Inv-loop μ-loop
-unfolding otherHolds
 loop-holds c = refl
 
 another-holds-requires : tie.Need-another-holds-requires Inv-loop μ-loop

@@ -1,6 +1,7 @@
 use borrow.Author.Needs.{needs}
 use Rattle.house.proofs.Branches.{followed}
-use Rattle.house.specs.Rules.{waitsAt}
+use Rattle.judge.proofs.Laws.{peers}
+use Rattle.ruling.specs.Judged.{waitsAt}
 use Rattle.judge.proofs.scans.waits_at.Statement.{statement}
 use Rattle.judge.proofs.scans.waits_at.Tie as tie
 
@@ -12,7 +13,7 @@ peer-holds-requires c κs = search needs
 
 returns : tie.Need-returns
 unfolding waitsAt
-returns c = search followed
+returns c = search (followed, peers)
 
 returns-2 : tie.Need-returns-2
 unfolding waitsAt

@@ -1,19 +1,17 @@
 -- Who has written nothing waits for nobody (`nothing-written`). For the others the invariant is that what is left of the 64 gives the answer;
 -- `search searched` goes on, out and to the end.
 use Prim.Native.Nat.{_-_}
-use native.Mathlib.Nat.{mod-eq-of-lt}
-use mathlib.Core.Path.{_≡_, refl, sym, _∙_}
-use borrow.Author.Tests.{not-true}
+use mathlib.Core.Path.{_≡_, refl}
 use borrow.Author.Needs.{needs}
-use Rattle.house.proofs.Checks.{nothing-written}
 use Rattle.house.proofs.Searches.{searched}
-use Rattle.house.specs.Rules.{waitsAt}
-use Rattle.house.specs.Search.{any}
-use Rattle.judge.proofs.scans.must_wait.Statement.{statement}
-use Rattle.judge.proofs.scans.must_wait.Tie as tie
+use Rattle.ruling.specs.Judged.{waitsAt}
+use Rattle.house.specs.Search.{find}
+use Rattle.judge.proofs.Laws.{nothing-written}
+use Rattle.judge.proofs.scans.first_awaited.Statement.{statement}
+use Rattle.judge.proofs.scans.first_awaited.Tie as tie
 
 abbrev Inv-loop : tie.InvT-loop
-Inv-loop cells me i₀ i = any (waitsAt cells me) 0 64 ≡ any (waitsAt cells me) i (64 - i)
+Inv-loop cells me i₀ i = find (waitsAt cells me) 0 64 ≡ find (waitsAt cells me) i (64 - i)
 
 abbrev μ-loop : tie.MeasureT-loop
 μ-loop cells me i₀ i = 64 - i
@@ -22,7 +20,7 @@ holds-any-requires : tie.Need-holds-any-requires Inv-loop μ-loop
 holds-any-requires c κs = search needs
 
 returns : tie.Need-returns Inv-loop μ-loop
-returns c = sym (nothing-written _ _ (rw (mod-eq-of-lt (c .before .before .pre)) at (sym (c .before .holds-any .ensures) ∙ not-true _ (c .if1 .taken))))
+returns c = search nothing-written
 
 loop-holds : tie.Need-loop-holds Inv-loop μ-loop
 loop-holds c = refl
@@ -45,8 +43,8 @@ loop-again c = search searched
 returns-3 : tie.Need-returns-3 Inv-loop μ-loop
 returns-3 c = search searched
 
-pub must-wait-spec : {M : Type 1} → statement M
-must-wait-spec =
+pub first-awaited-spec : {M : Type 1} → statement M
+first-awaited-spec =
     tie.close
     (tie.spec
     Inv-loop

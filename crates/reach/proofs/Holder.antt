@@ -1,0 +1,83 @@
+-- CR 5: proof of the statement in specs/Holder.antt. Whoever hinders a request has a lock on the item, so it is open; its write or certify
+-- lock is at the item's level, which the asker may read or write at, and a read lock counts at the asker's own level alone.
+-- Assumes nothing.
+use Prim.Native.Nat.{ℕ, _<_}
+use mathlib.Core.Path.{_≡_, refl, sym, _∙_}
+use mathlib.Core.Logic.{inl, inr}
+use mathlib.Core.Bool.{true, false, not}
+use lib.Dec.{eqb}
+use borrow.Author.Tests.{eqb-true, eqb-false, not-true}
+use Rattle.house.specs.declared.Found.the-variants.{At}
+use Rattle.house.specs.declared.House.{House}
+use Rattle.house.specs.declared.Mark.the-variants.{Read, Write, Certify}
+use Rattle.house.specs.declared.Request.{Request}
+use Rattle.house.specs.Matrix.{Lock}
+use Rattle.house.specs.House.{dominates, levelOf}
+use Rattle.house.specs.Checks.{foremost}
+use Rattle.house.specs.Rules.{read, write, _does_, asker, usesItem, peerReads, hinders, wants, conflict, holder, refusals}
+use Rattle.house.proofs.Tests.{is, clash, refuted, and-true, or-false}
+use Rattle.house.proofs.Levels.{dominates-itself}
+use Rattle.house.proofs.Checks.{Clear, clear, allowed-below}
+use Rattle.house.proofs.Steps.{waits-is, holder-at}
+use Rattle.house.proofs.Holders.{hinders-claims, conflict-at}
+use Rattle.reach.specs.Decides.{refuses, refusedBy}
+use Rattle.reach.specs.Holder.{Holds, HolderNamed}
+use Rattle.reach.proofs.Law.{Law, clear-has, claimed-below}
+use Rattle.reach.proofs.Turns.{Asker, found}
+use Rattle.reach.proofs.Kept.{kept-law}
+use Rattle.reach.proofs.Opened.{reachable-has}
+use Rattle.reach.proofs.Guards.{delay-held}
+use Rattle.reach.proofs.Decides.{hinders-refused}
+
+-- the matrix refuses nothing for a clear cell
+clear-grants : (k : Lock) (l x c : ℕ) → c ≡ 0 → refuses k l x c ≡ false
+unfolding refuses
+clear-grants k l x c z = rw (clear-has Read c z, clear-has Write c z, clear-has Certify c z)
+
+module _ {h : House} (L : Law h) (q : Request) (U : Clear h q) (me : ℕ) (A : Asker h q me) where
+  holder-below : (p i : ℕ) → p < 32 → i < 64 → wants (h .cells) q me i ≡ true → hinders (h .cells) (q .operation) me i p ≡ true → dominates (q .level) (levelOf p) ≡ true
+  unfolding hinders wants peerReads
+  holder-below p i b a w y =
+      elim (is (usesItem q)) [
+        | inl u ↦ claimed-below L (q .level) me p i b a (rw (eqb-true i (q .item) (rw u at w)) (allowed-below h q u (U .allowed))) (hinders-claims (h .cells) q me i p u y)
+        | inr n ↦
+            let none = or-false (q does read) (q does write) n in
+            let l : levelOf p ≡ levelOf me = eqb-true _ _ (and-true (eqb (levelOf p) (levelOf me)) _ (rw (none .0, none .1) at y) .0) in
+            rw (l, A .seated .within .level) (dominates-itself (q .level))
+      ]
+
+  holds : (p : ℕ) → conflict (h .cells) q me ≡ At p → Holds h q p
+  unfolding refusedBy
+  holds p e =
+      let H = conflict-at (h .cells) q me p e in
+      let at = hinders-refused L q me (A .seated .within .place) in
+      let y = sym (at (H .item) p (H .row) (H .place) (H .wanted)) ∙ H .by in
+      let k = and-true (not (eqb p me)) _ y in
+      record {
+        place = H .place;
+        me = me;
+        item = H .item;
+        asking = A .at;
+        row = H .row;
+        stands = refuted _ (λ f. clash (k .1) (clear-grants _ _ _ _ (L .cells p (H .item) (H .place) (H .row) .idle f)));
+        other = eqb-false p me (not-true _ (k .0));
+        wanted = H .wanted;
+        refused = y;
+        lowest = λ i r a b w z. H .lowest i r a b w (at i r a b w ∙ z);
+        below = holder-below p (H .item) (H .place) (H .row) (H .wanted) (H .by);
+      }
+
+-- whom the rules find holds it
+pub held-by : {h : House} → Law h → (q : Request) → foremost (refusals h q) ≡ 0 → (p : ℕ) → holder h q ≡ At p → Holds h q p
+held-by {h} L q z p e =
+    let U = clear h q z in
+    let w = holder-at (asker h q) (conflict (h .cells) q) p e in
+    holds L q U (w .0) (found (U .level) (w .1)) p (w .2)
+
+pub holder-named : HolderNamed
+holder-named h R q e =
+    let K = reachable-has h R in
+    let d = delay-held h q e in
+    let p = d .1 in
+    let H = held-by (kept-law K) q (d .0) p (d .2) in
+    rw (waits-is h q p (d .0) (d .2)) (record { holder = p; holds = H; value = refl; ticket = K .named p (H .place) (H .stands); version = refl })
