@@ -4,14 +4,14 @@ use Prim.Native.Nat.{ℕ, _+_, _*_, _/_, _%_, _<_}
 use native.Mathlib.Omega.{arith}
 use native.Mathlib.Nat.{mod-eq-of-lt}
 use mathlib.Core.Path.{_≡_, refl, sym, _∙_}
-use mathlib.Core.Logic.{inl, inr}
+use mathlib.Core.Logic.{_≢_, inl, inr}
 use mathlib.Core.Bool.{Bool, true, false, not, _||_}
 use mathlib.Core.List.{List}
 use lib.Dec.{eqb, leb}
 use borrow.Author.Tests.{eq-eqb, ne-eqb, eqb-true, not-true}
 use mir.Syntax.{w16, w64}
 use mir.Val.{Fits}
-use Rattle.house.proofs.Tests.{is, same, clash, refuted, and-true, and-intro, or-false}
+use Rattle.house.proofs.Tests.{is, same, clash, refuted, and-true, and-intro}
 use Rattle.house.proofs.Checks.{there, level-there}
 use Rattle.house.proofs.Searches.{any-none, any-some, any-at, find-at, find-below, none-found, scan-same}
 use Rattle.house.proofs.Places.{seek-at, vacancy-at}
@@ -70,17 +70,19 @@ eighth-fits k b = omega arith
 
 -- THE SCANS: each in the words of the search that it spares
 
+-- two tests that agree on `me`, and on whoever is not `me`
+but-me : (f g : ℕ → Bool) (me : ℕ) → f me ≡ g me → ((p : ℕ) → p ≢ me → f p ≡ g p) → any f 0 32 ≡ any g 0 32
+but-me f g me here there = scan-same f g _ _ 0 32 (λ p a b. elim (same p me) [ inl e ↦ rw e here | inr d ↦ there p d ])
+
 module _ (cells : List ℕ) (me i : ℕ) (b : Bool) where
   -- who does not hold the mark, or claim the item, need not be told from the others
   pub others-hold : (m : Mark) → b ≡ holds cells m me i → b ≡ false → (r : Bool) → r ≡ any (λ p. holds cells m p i) 0 32 → r ≡ any (anotherHolds cells m me i) 0 32
   unfolding anotherHolds
-  others-hold m e n r s = s ∙ scan-same _ _ _ _ 0 32 (λ p a c. elim (same p me) [ inl q ↦ rw (q, eq-eqb me me refl, sym e ∙ n) | inr d ↦ rw (ne-eqb p me d) ])
+  others-hold m e n r s = s ∙ but-me _ _ me (rw (eq-eqb me me refl) (sym e ∙ n)) (λ p d. rw (ne-eqb p me d))
 
   pub others-claim : b ≡ (holds cells Write me i || holds cells Certify me i) → b ≡ false → (r : Bool) → r ≡ any (λ p. holds cells Write p i || holds cells Certify p i) 0 32 → r ≡ any (anotherClaims cells me i) 0 32
   unfolding anotherClaims anotherHolds
-  others-claim e n r s =
-      let mine = or-false (holds cells Write me i) (holds cells Certify me i) (sym e ∙ n) in
-      s ∙ scan-same _ _ _ _ 0 32 (λ p a c. elim (same p me) [ inl q ↦ rw (q, eq-eqb me me refl, mine .0, mine .1) | inr d ↦ rw (ne-eqb p me d) ])
+  others-claim e n r s = s ∙ but-me _ _ me (rw (eq-eqb me me refl) (sym e ∙ n)) (λ p d. rw (ne-eqb p me d))
 
 -- those of a level are the eight
 pub peers : (cells : List ℕ) (me i : ℕ) → me < 32 → (r : Bool) → r ≡ any (anotherHolds cells Read me i) (me / 8 * 8) 8 → r ≡ any (hinders cells certify me i) 0 32

@@ -188,6 +188,7 @@ module _ (k : ℕ) {h g : House} (A : Alike k h g) where
                 | inr n ↦ let none = or-false (q does read) (q does write) n in rw (none .0, none .1, peer-alike me m low i p a b)
               ]
 
+          -- (as `holder-below` of reach; CR 3 does without it, so that edits of the rules which both notice can be tried on CR 3 alone)
           hinders-seen : hinders (h .cells) (q .operation) me i p ≡ true → dominates k (levelOf p) ≡ true
           unfolding hinders peerReads
           hinders-seen y =

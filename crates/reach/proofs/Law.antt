@@ -15,7 +15,7 @@ use Rattle.house.specs.Cell.{has, cellAt, anotherHolds}
 use Rattle.house.specs.House.{fixed, Sizes, dominates, above, levelOf, blank, itemAt, pendingAt, placeAt, isFree, isActive, isCertified}
 use Rattle.house.specs.Rules.{anotherClaims}
 use Rattle.reach.specs.Kept.{Open, Issued}
-use Rattle.house.proofs.Holders.{another-is}
+use Rattle.house.proofs.Holders.{another-marked}
 use Rattle.house.proofs.Tests.{same, clash, refuted, or-left, or-right, or-elim, or-false}
 
 -- the cell says that its item is written: with the write lock or, once certified, with the certify lock
@@ -108,8 +108,8 @@ unfolding anotherClaims
 claimed-below {h} L l me p i b a d y =
     let own = L .cells p i b a .owned in
     or-elim (anotherHolds (h .cells) Write me i p) (anotherHolds (h .cells) Certify me i p) y
-    (λ w. rw (own (held-write _ (another-is (h .cells) Write me i p w .marked))) at d)
-    (λ w. rw (own (held-certify _ (another-is (h .cells) Certify me i p w .marked))) at d)
+    (λ w. rw (own (held-write _ (another-marked (h .cells) Write me i p w))) at d)
+    (λ w. rw (own (held-certify _ (another-marked (h .cells) Certify me i p w))) at d)
 
 -- what one has written, no other has
 pub unheld : {h : House} → Law h → (p q i : ℕ) → p < 32 → q < 32 → i < 64 → p ≢ q → held (cellAt (h .cells) q i) ≡ true → held (cellAt (h .cells) p i) ≡ false

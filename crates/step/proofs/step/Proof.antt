@@ -3,11 +3,16 @@
 use Prim.Native.Nat.{_<_}
 use native.Mathlib.Omega.{arith}
 use mathlib.Core.Logic.{⊎-elim}
-use mathlib.Core.Path.{_∙_}
+use mathlib.Core.Path.{_≡_, _∙_}
 use borrow.Author.Needs.{needs}
+use Rattle.house.specs.declared.Answer.{Answer}
 use Rattle.step.proofs.Requests.{holder-there, refused, delayed, granted}
 use Rattle.step.proofs.step.Statement.{statement}
 use Rattle.step.proofs.step.Tie as tie
+
+-- what the variable is where the two ways have met
+through : (x y z : Answer) → x ≡ y → y ≡ z → x ≡ z
+through x y z p q = p ∙ q
 
 waits : (c : tie.After-ruling2) → c .ruling2 .given .0 .0 < 32
 waits c = search holder-there
@@ -142,7 +147,7 @@ reply-to-requires-2 : tie.Need-reply-to-requires-2
 reply-to-requires-2 c κs = search needs
 
 returns-2 : tie.Need-returns-2
-returns-2 c = ⊎-elim (λ w. let told = w .5 ∙ w .4 .ensures in search delayed) (λ w. search refused) (c .before .match .came)
+returns-2 c = ⊎-elim (λ w. search (delayed, through)) (λ w. search refused) (c .before .match .came)
 
 pub step-spec : {M : Type 1} → statement M
 step-spec =
