@@ -2,18 +2,15 @@
 -- Assumes nothing.
 use Prim.Native.Nat.{ℕ}
 use native.Mathlib.Omega.{arith}
-use mathlib.Core.Path.{_≡_, refl, ap, _∙_}
+use mathlib.Core.Path.{_≡_, _∙_}
 use mathlib.Core.Logic.{_≢_}
 use borrow.Author.Tests.{ne-eqb}
 use Rattle.house.specs.declared.Answer.the-variants.{Refused}
-use Rattle.house.specs.declared.Found.{Found}
 use Rattle.house.specs.declared.Found.the-variants.{At, Nobody}
 use Rattle.house.specs.declared.House.{House}
 use Rattle.house.specs.declared.Request.{Request}
-use Rattle.house.specs.Search.{ifFound, nobody}
 use Rattle.house.specs.Checks.{foremost}
 use Rattle.house.specs.Rules.{holder, delayed, refusals, verdict, outcome, performed, named, unserved, stepped}
-use Rattle.house.proofs.Tests.{clash}
 use Rattle.house.proofs.Checks.{refusal-not-delay, verdict-is}
 
 -- a refusal comes before a delay
@@ -40,8 +37,3 @@ done-is h q e = rw e
 pub free-is : (h : House) (q : Request) → foremost (refusals h q) ≡ 0 → holder h q ≡ Nobody → stepped h q ≡ performed h q
 unfolding delayed
 free-is h q z e = done-is h q (verdict-is h q ∙ rw (z, e))
-
--- one who waits for the holder at p is found, and has the conflict
-pub holder-at : (who : Found) (f : ℕ → Found) (p : ℕ) → ifFound who f Nobody ≡ At p → (me : ℕ) × (who ≡ At me) × (f me ≡ At p)
-holder-at (At me) f p e = (me, refl, e)
-holder-at Nobody f p e = clash refl (ap nobody e)

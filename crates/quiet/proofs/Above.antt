@@ -97,7 +97,7 @@ module _ {h : House} (L : Law h) where
 
   turn-unseen : (k : ℕ) {q : Request} {o : Outcome} → dominates k (q .level) ≡ false → Turn h q o → Alike k (o .house) h
   turn-unseen k d (refused n) = alike-itself k h
-  turn-unseen k d (waits me p A z c) = alike-itself k h
+  turn-unseen k d (waits p z e) = alike-itself k h
   turn-unseen k d (begins me o K) = unseen k (begin-frame L K) (begin-spares K) (rw (K .placed) d)
   turn-unseen k d (reads me o A K) = unseen k (read-frame L K) (read-spares K) (rw (A .seated .within .level) d)
   turn-unseen k d (writes me o A K) = unseen k (write-frame L K) (write-spares K) (rw (A .seated .within .level) d)

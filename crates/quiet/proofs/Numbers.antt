@@ -22,8 +22,7 @@ use Rattle.house.specs.Checks.{foremost}
 use Rattle.house.specs.Rules.{begin, read, write, certify, commit, _does_, asker, usesItem, unknown, noItem, forbidden, stopped, untimely, wornOut, crowded, ticketless, anotherClaims, peerReads, hinders, wants, holderOn, conflict, holder, refusals}
 use Rattle.house.proofs.Tests.{is, same, clash, refuted, and-true, or-false, or-right}
 use Rattle.house.proofs.Searches.{scan-same, round-same, first-same}
-use Rattle.house.proofs.Steps.{holder-at}
-use Rattle.house.proofs.Holders.{hinders-claims, conflict-at}
+use Rattle.house.proofs.Holders.{hinders-claims, holder-at}
 use Rattle.house.proofs.Places.{seek-at}
 use Rattle.house.proofs.Levels.{dominates-on}
 use Rattle.house.proofs.Checks.{Clear, level-there, item-there, allowed-below}
@@ -213,14 +212,12 @@ module _ (k : ℕ) {h g : House} (A : Alike k h g) where
         unfolding conflict
         conflict-alike = first-same _ _ 0 64 (λ i x y. on-alike i (omega arith))
 
-        conflict-seen : (p : ℕ) → conflict (h .cells) q me ≡ At p → (p < 32) × (dominates k (levelOf p) ≡ true)
-        conflict-seen p e = let H = conflict-at (h .cells) q me p e in (H .place, hinders-seen (H .item) p (H .row) (H .place) (H .wanted) (H .by))
-
       pub holder-alike : Clear h q → holder h q ≡ holder g q
       holder-alike c = by-asker q d (c .level) (conflict (h .cells) q) (conflict (g .cells) q) Nobody (conflict-alike c)
 
       pub holder-seen : Clear h q → (p : ℕ) → holder h q ≡ At p → (p < 32) × (dominates k (levelOf p) ≡ true)
       holder-seen c p e =
-          let w = holder-at (asker h q) (conflict (h .cells) q) p e in
+          let w = holder-at h q p e in
+          let H = w .2 in
           let s = seek-at (h .places) (q .level) (q .ticket) (w .0) (c .level) (w .1) .within in
-          conflict-seen c (w .0) (s .place) (rw (s .level) d) p (w .2)
+          (H .place, hinders-seen c (w .0) (s .place) (rw (s .level) d) (H .item) p (H .row) (H .place) (H .wanted) (H .by))

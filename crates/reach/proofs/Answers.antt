@@ -74,7 +74,7 @@ opening-stands levels =
 
 turn-fixed : {h : House} {q : Request} {o : Outcome} → Turn h q o → fixed (o .house) ≡ fixed h
 turn-fixed (refused n) = refl
-turn-fixed (waits me p A z c) = refl
+turn-fixed (waits p z e) = refl
 turn-fixed {h} {q} (begins me o K) = begun-fixed h (q .level) me
 turn-fixed {h} {q} (reads me o A K) = read-fixed h me (q .item)
 turn-fixed {h} {q} (writes me o A K) = written-fixed h me (q .item) (q .value)

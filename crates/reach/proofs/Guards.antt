@@ -46,7 +46,7 @@ read-number h q me i = elim (is (holds (h .cells) Write me i)) [ inl w ↦ rw w 
 done-number : {h : House} {q : Request} {o : Outcome} → verdict h q ≡ 0 → Turn h q o → o .reply .number ≡ 0
 unfolding delayed askAnswer
 done-number {h} {q} v (refused n) = absurd (n (sym (first-refused h q n) ∙ v))
-done-number {h} {q} v (waits me p A z c) = clash refl (rw (A .at, c) at (passes h q v .1))
+done-number {h} {q} v (waits p z e) = clash refl (rw e at (passes h q v .1))
 done-number v (begins me o K) = refl
 done-number {h} {q} v (reads me o A K) = read-number h q me (q .item)
 done-number v (writes me o A K) = refl

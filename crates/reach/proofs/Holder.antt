@@ -14,12 +14,12 @@ use Rattle.house.specs.declared.Request.{Request}
 use Rattle.house.specs.Matrix.{Lock}
 use Rattle.house.specs.House.{dominates, levelOf}
 use Rattle.house.specs.Checks.{foremost}
-use Rattle.house.specs.Rules.{read, write, _does_, asker, usesItem, peerReads, hinders, wants, conflict, holder, refusals}
+use Rattle.house.specs.Rules.{read, write, _does_, usesItem, peerReads, hinders, wants, holder, refusals}
 use Rattle.house.proofs.Tests.{is, clash, refuted, and-true, or-false}
 use Rattle.house.proofs.Levels.{dominates-itself}
 use Rattle.house.proofs.Checks.{Clear, clear, allowed-below}
-use Rattle.house.proofs.Steps.{waits-is, holder-at}
-use Rattle.house.proofs.Holders.{hinders-claims, conflict-at}
+use Rattle.house.proofs.Steps.{waits-is}
+use Rattle.house.proofs.Holders.{Hindered, hinders-claims, holder-at}
 use Rattle.reach.specs.Decides.{refuses, refusedBy}
 use Rattle.reach.specs.Holder.{Holds, HolderNamed}
 use Rattle.reach.proofs.Law.{Law, clear-has, claimed-below}
@@ -46,10 +46,9 @@ module _ {h : House} (L : Law h) (q : Request) (U : Clear h q) (me : ℕ) (A : A
             rw (l, A .seated .within .level) (dominates-itself (q .level))
       ]
 
-  holds : (p : ℕ) → conflict (h .cells) q me ≡ At p → Holds h q p
+  holds : (p : ℕ) → Hindered (h .cells) q me p → Holds h q p
   unfolding refusedBy
-  holds p e =
-      let H = conflict-at (h .cells) q me p e in
+  holds p H =
       let at = hinders-refused L q me (A .seated .within .place) in
       let y = sym (at (H .item) p (H .row) (H .place) (H .wanted)) ∙ H .by in
       let k = and-true (not (eqb p me)) _ y in
@@ -71,7 +70,7 @@ module _ {h : House} (L : Law h) (q : Request) (U : Clear h q) (me : ℕ) (A : A
 pub held-by : {h : House} → Law h → (q : Request) → foremost (refusals h q) ≡ 0 → (p : ℕ) → holder h q ≡ At p → Holds h q p
 held-by {h} L q z p e =
     let U = clear h q z in
-    let w = holder-at (asker h q) (conflict (h .cells) q) p e in
+    let w = holder-at h q p e in
     holds L q U (w .0) (found (U .level) (w .1)) p (w .2)
 
 pub holder-named : HolderNamed

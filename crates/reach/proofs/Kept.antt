@@ -253,7 +253,7 @@ changed B m F O N = (lawful (B .0) F m O, tidied (B .0) F m (B .1) N)
 turn-both : {h : House} {q : Request} {o : Outcome} → Both h → Turn h q o → Both (o .house)
 unfolding Both
 turn-both B (refused n) = B
-turn-both B (waits me p A z c) = B
+turn-both B (waits p z e) = B
 turn-both B (begins me o K) = changed B (K .place) (begin-frame (B .0) K) (begin-own (B .0) K) (begin-neat (B .0) (B .1) K)
 turn-both B (reads me o A K) = changed B (K .place) (read-frame (B .0) K) (read-own (B .0) K) (read-neat (B .0) (B .1) K)
 turn-both B (writes me o A K) = changed B (K .place) (write-frame (B .0) K) (write-own (B .0) K) (write-neat (B .0) (B .1) K)

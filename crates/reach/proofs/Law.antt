@@ -30,10 +30,6 @@ pub held-certify : (c : ℕ) → has Certify c ≡ true → held c ≡ true
 unfolding held
 held-certify c e = or-right (has Write c) (has Certify c) e
 
-pub held-elim : {A : Type 0} (c : ℕ) → held c ≡ true → (has Write c ≡ true → A) → (has Certify c ≡ true → A) → A
-unfolding held
-held-elim c e f g = or-elim (has Write c) (has Certify c) e f g
-
 pub held-neither : (c : ℕ) → held c ≡ false → (has Write c ≡ false) × (has Certify c ≡ false)
 unfolding held
 held-neither c e = or-false (has Write c) (has Certify c) e
@@ -98,11 +94,7 @@ clear-law z free clear =
       issued = λ p b x. clash (free p b) x;
     }
 
--- who has a lock is open
-pub locked-open : {h : House} → Law h → (m : Mark) (p i : ℕ) → p < 32 → i < 64 → has m (cellAt (h .cells) p i) ≡ true → Open h p
-locked-open {h} L m p i b a e = refuted _ (λ f. clash e (clear-has m _ (L .cells p i b a .idle f)))
-
--- and what another has written on an item that a level dominates, that level dominates
+-- what another has written on an item that a level dominates, that level dominates
 pub claimed-below : {h : House} → Law h → (l me p i : ℕ) → p < 32 → i < 64 → dominates l (itemAt (h .items) i .level) ≡ true → anotherClaims (h .cells) me i p ≡ true → dominates l (levelOf p) ≡ true
 unfolding anotherClaims
 claimed-below {h} L l me p i b a d y =

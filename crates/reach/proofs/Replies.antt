@@ -39,7 +39,7 @@ module _ (h : House) (q : Request) where
 
 turn-whole : {h : House} {q : Request} {o : Outcome} → o .reply .number ≡ verdict h q → Turn h q o → Whole h q (o .reply)
 turn-whole {h} {q} n (refused z) = let e = ne-eqb _ 0 z in let d = refusal-not-delay h q in record { number = n; operation = refl; item = rw e; ticket = rw e; value = rw (e, d); version = rw (e, d) }
-turn-whole n (waits me p A z c) = record { number = n; operation = refl; item = refl; ticket = refl; value = rw (A .at, c); version = rw (A .at, c) }
+turn-whole n (waits p z e) = record { number = n; operation = refl; item = refl; ticket = refl; value = rw e; version = rw e }
 turn-whole n (begins me o K) = record { number = n; operation = refl; item = rw o; ticket = rw o; value = rw o; version = rw o }
 turn-whole {h} {q} n (reads me o A K) = read-whole h q me o (A .at) n
 turn-whole {h} {q} n (writes me o A K) = plain h q 2 o refl refl refl n

@@ -46,7 +46,7 @@ commit-saves {h} K me i m a =
 turn-saves : {h : House} {q : Request} {o : Outcome} → Kept h → (i : ℕ) → i < 64 → Turn h q o → Saved (itemAt (h .items) i) (itemAt (o .house .items) i)
 unfolding begun readBy writtenBy certifiedBy left
 turn-saves K i a (refused n) = inl refl
-turn-saves K i a (waits me p A z c) = inl refl
+turn-saves K i a (waits p z e) = inl refl
 turn-saves K i a (begins me o M) = inl refl
 turn-saves K i a (reads me o A M) = inl refl
 turn-saves K i a (writes me o A M) = inl refl

@@ -26,7 +26,7 @@ use Rattle.reach.proofs.Opened.{opening-has}
 -- what has been given out stays so
 turn-issued : {h : House} {q : Request} {o : Outcome} → Law h → Turn h q o → (l t : ℕ) → Issued h l t → Issued (o .house) l t
 turn-issued L (refused n) l t i = i
-turn-issued L (waits me p A z c) l t i = i
+turn-issued L (waits p z e) l t i = i
 turn-issued L (begins me o K) l t i = begin-frame L K .issued l t i
 turn-issued L (reads me o A K) l t i = read-frame L K .issued l t i
 turn-issued L (writes me o A K) l t i = write-frame L K .issued l t i
@@ -43,7 +43,7 @@ record Given (h h′ : House) (l t : ℕ) : Type 0 where
 begin-gives : {h : House} {q : Request} {o : Outcome} → Law h → Turn h q o → done (q, o .reply) begin ≡ true → Given h (o .house) (q .level) (o .reply .ticket)
 unfolding Issued
 begin-gives L (refused n) d = clash d (rw (ne-eqb _ 0 n))
-begin-gives L (waits me p A z c) d = clash d refl
+begin-gives L (waits p z e) d = clash d refl
 begin-gives L (begins me o K) d = record { new = λ i. omega (arith, i (K .ticket)); out = now-issued L K }
 begin-gives L (reads me o A K) d = clash d (rw (o, and-no _))
 begin-gives L (writes me o A K) d = clash d (rw o)

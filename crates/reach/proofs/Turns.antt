@@ -25,7 +25,7 @@ use Rattle.house.proofs.Tests.{same, or-false, and-right-false, not-is}
 use Rattle.house.proofs.Holders.{another-not, conflict-none}
 use Rattle.house.proofs.Places.{Seated, seek-at, vacancy-at, is-active, is-certified}
 use Rattle.house.proofs.Checks.{Clear, clear, item-there, somebody, asker-known}
-use Rattle.house.proofs.Steps.{refused-is, waits-is, free-is, holder-at}
+use Rattle.house.proofs.Steps.{refused-is, waits-is, free-is}
 use Rattle.reach.proofs.Law.{held}
 
 -- Begin, at the free place `me` of level l
@@ -77,7 +77,7 @@ found {h} {q} {me} b a = record { at = a; seated = seek-at (h .places) (q .level
 -- the cases, with what each yields
 pub data Turn (h : House) (q : Request) : Outcome → Type 0 where
   refused : foremost (refusals h q) ≢ 0 → Turn h q (outcome h q (Refused (foremost (refusals h q))))
-  waits : (me p : ℕ) → Asker h q me → foremost (refusals h q) ≡ 0 → conflict (h .cells) q me ≡ At p → Turn h q (outcome h q (named h p))
+  waits : (p : ℕ) → foremost (refusals h q) ≡ 0 → holder h q ≡ At p → Turn h q (outcome h q (named h p))
   begins : (me : ℕ) → q .operation ≡ 0 → MayBegin h (q .level) me → Turn h q (outcome (begun h (q .level) me) q (Ticket (nextAt (h .next) (q .level))))
   reads : (me : ℕ) → q .operation ≡ 1 → Asker h q me → MayRead h me (q .item) → Turn h q (outcome (readBy h me (q .item)) q (readFor h me (q .item)))
   writes : (me : ℕ) → q .operation ≡ 2 → Asker h q me → MayWrite h me (q .item) (q .value) → Turn h q (outcome (writtenBy h me (q .item) (q .value)) q Done)
@@ -181,7 +181,7 @@ module _ (h : House) (q : Request) (z : foremost (refusals h q) ≡ 0) where
   ]
 
   turn-unrefused : (who : Found) → holder h q ≡ who → Turn h q (stepped h q)
-  turn-unrefused (At p) e = let w = holder-at (asker h q) (conflict (h .cells) q) p e in yields (waits (w .0) p (found (c .level) (w .1)) z (w .2)) (waits-is h q p z e)
+  turn-unrefused (At p) e = yields (waits p z e) (waits-is h q p z e)
   turn-unrefused Nobody e = yields (turn-done e) (free-is h q z e)
 
 -- every request is one of them

@@ -13,14 +13,14 @@ use Rattle.house.specs.declared.Request.{Request}
 use Rattle.house.specs.House.{Sizes, vacancy}
 use Rattle.house.specs.Checks.{foremost}
 use Rattle.house.specs.Search.{ifFound}
-use Rattle.house.specs.Rules.{begin, asker, usesItem, crowded, conflict, holder, refusals, outcome, served, performed, stepped}
+use Rattle.house.specs.Rules.{begin, asker, usesItem, crowded, holder, refusals, outcome, served, performed, stepped}
 use Rattle.house.proofs.Operations.{is-begin, is-read, is-write, is-certify, is-commit, is-abort, is-ask, not-begin}
 use Rattle.house.proofs.Tests.{same, and-intro}
 use Rattle.house.proofs.Places.{seek-at, vacancy-at}
 use Rattle.house.proofs.Effects.{begun-sizes, read-sizes, written-sizes, certified-sizes, left-sizes, committed-sizes}
 use Rattle.house.proofs.Checks.{Clear, clear, item-there, somebody, asker-known}
-use Rattle.house.proofs.Steps.{refused-is, waits-is, free-is, holder-at}
-use Rattle.house.proofs.Holders.{conflict-at}
+use Rattle.house.proofs.Steps.{refused-is, waits-is, free-is}
+use Rattle.house.proofs.Holders.{holder-at}
 use Rattle.ruling.specs.declared.Change.{Change}
 use Rattle.ruling.specs.declared.Change.the-variants.{Nothing, Begin, Read, Write, Certify, End}
 use Rattle.ruling.specs.declared.Ruling.{Ruling}
@@ -70,7 +70,7 @@ module _ (h : House) (q : Request) where
   Ruled r = (stepped h q ≡ outcome (effect h (changeOf r)) q (answerOf h r)) × (rulingFits r ≡ true)
 
   holder-there : (p : ℕ) → holder h q ≡ At p → p < 32
-  holder-there p e = let w = holder-at (asker h q) (conflict (h .cells) q) p e in conflict-at (h .cells) q (w .0) p (w .2) .place
+  holder-there p e = holder-at h q p e .2 .place
 
   unrefused : foremost (refusals h q) ≡ 0 → (who : Found) → holder h q ≡ who → Ruled (ifFound who Wait (granted h q))
   unrefused z (At p) e = (waits-is h q p z e, lt-ltb p 32 (holder-there p e))

@@ -251,7 +251,7 @@ module _ {t : Table} {h : House} {past : Past} (I : Known t h past) (q : Request
 
   turn-known : {o : Outcome} → Turn h q o → Known t (o .house) ((q, o .reply) ∷ past)
   turn-known (refused n) = undone-known _ n
-  turn-known (waits me p A z c) = undone-known _ (λ e. omega arith)
+  turn-known (waits p z e) = undone-known _ (λ e. omega arith)
   turn-known (begins me o K) = begin-known me o K
   turn-known (reads me o A K) = read-known me (A .seated) o K
   turn-known (writes me o A K) = write-known me (A .seated) o K

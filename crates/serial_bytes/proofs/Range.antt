@@ -23,7 +23,7 @@ use Rattle.house.specs.Rules.{ticketAfter, grown, begun, readBy, readAnswer, re
 use Rattle.house.specs.Opening.{opened, opening}
 use Rattle.house.proofs.Tests.{is, same}
 use Rattle.house.proofs.Searches.{find-below}
-use Rattle.house.proofs.Holders.{conflict-at}
+use Rattle.house.proofs.Holders.{holder-at}
 use Rattle.house.proofs.Openings.{opened-sizes, opened-item, opened-pending, opened-place, opened-next}
 use Rattle.house.proofs.Effects.{begun-sizes, begun-next, begun-next-other, begun-place, begun-place-other, certified-place, certified-place-other, left-place, left-place-other, read-sizes, written-sizes, written-pending, written-pending-other, certified-sizes, left-sizes, left-pending, committed-sizes, committed-item}
 use Rattle.wire.specs.Wire.{requestAt}
@@ -164,7 +164,7 @@ module _ {h : House} (f : Fits h) (q : Request) (k : FitRequest q) where
   turn-fits : (o : Outcome) → Turn h q o → Both o
   unfolding askAnswer countSignalled
   turn-fits o (refused n) = (f, plain _)
-  turn-fits o (waits me p s z c) = let b = conflict-at (h .cells) q me p c .place in (f, record { item = k .item; ticket = k .ticket; value = f .tickets p b; version = omega arith })
+  turn-fits o (waits p z e) = let b = holder-at h q p e .2 .place in (f, record { item = k .item; ticket = k .ticket; value = f .tickets p b; version = omega arith })
   turn-fits o (begins me z m) = (begun-fits f (q .level) me (m .level) (m .place), record { item = k .item; ticket = f .next (q .level) (m .level); value = omega arith; version = omega arith })
   turn-fits o (reads me z s m) = (read-fits f me (q .item), read-answer me (m .row))
   turn-fits o (writes me z s m) = (written-fits f me (q .item) (q .value) (m .row) (k .value), plain 0)
