@@ -143,8 +143,7 @@ fn sum_up(struck: &Struck, rows: &[Row], out: &mut impl Write) -> Result<(), Sto
 #[cfg(test)]
 mod tests {
     use super::*;
-    use crate::desk::Desk;
-    use crate::run::output_for;
+    use crate::run::{output_for, BY_THE_RULES};
 
     const PROVED: &str = include_str!("../../crates/quiet_day/specs/Day.antt");
 
@@ -171,7 +170,7 @@ mod tests {
             }
         }
         assert_eq!(split_header(&input).1, requests);
-        assert_eq!(output_for(&input, Desk::answer), replies);
+        assert_eq!(output_for(&input, BY_THE_RULES), replies);
         assert_eq!(Struck::of(&input, DAY_LEVEL).stays, stays);
     }
 }

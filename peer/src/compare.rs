@@ -4,7 +4,7 @@ use crate::desk::Desk;
 use crate::generator;
 use crate::program::Program;
 use crate::progress::each_seed;
-use crate::run::{answer_whole, opened, output_for, replies_due};
+use crate::run::{answer_whole, opened, output_for, replies_due, BY_THE_RULES};
 use crate::stop::Stop;
 use crate::wire::{hex, split_header, Reply, Request, REPLY_BYTES, REQUEST_BYTES};
 use crate::words;
@@ -48,7 +48,7 @@ pub fn compare(
     let (mut requests, mut refused) = (0, 0);
     each_seed("compared", from, count, |seed| {
         let input = inputs.bytes(seed);
-        let ours = output_for(&input, Desk::answer);
+        let ours = output_for(&input, BY_THE_RULES);
         let explained = |theirs: &[u8]| explain(&input, &ours, theirs);
         compare_one(command, &input, ours.len(), explained)
             .map_err(|stop| stop.on_input_of(&inputs.how_to_make(seed)))?;
@@ -88,7 +88,7 @@ pub fn compare_one(
 /// as long as it is due to be; whether it is right is not looked at. `list` names the input.
 pub fn answer_of(command: Option<&str>, list: &str, input: &[u8]) -> Result<Vec<u8>, Stop> {
     let Some(command) = command else {
-        return Ok(output_for(input, Desk::answer));
+        return Ok(output_for(input, BY_THE_RULES));
     };
     let due = replies_due(input) * REPLY_BYTES;
     let explained = |output: &[u8]| match output.len() {
@@ -214,16 +214,16 @@ mod tests {
         let more = [&DAY_OUTPUT[..], &[1]].concat();
         let text = explain(&DAY_INPUT, &DAY_OUTPUT, &more).expect("a difference");
         assert!(text.contains("after the last whole request (3 were answered)"), "{text}");
-        let text = explain(&[0], &output_for(&[0], Desk::answer), &[]).expect("a difference");
+        let text = explain(&[0], &output_for(&[0], BY_THE_RULES), &[]).expect("a difference");
         assert!(text.contains("the opening is refused: 00"), "{text}");
     }
 
     #[test]
     fn each_slip_of_the_trade_shows_in_the_bytes() {
-        for (name, answer) in SLIPS {
+        for (name, conduct) in SLIPS {
             let differs = |seed: &u64| {
                 let input = generator::input(*seed, 400);
-                output_for(&input, Desk::answer) != output_for(&input, answer)
+                output_for(&input, BY_THE_RULES) != output_for(&input, conduct)
             };
             let found = (0..40).filter(differs).count();
             assert!(found >= 4, "a desk that {name} was found on {found} of 40 inputs only");

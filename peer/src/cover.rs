@@ -5,7 +5,7 @@ mod delays;
 use crate::desk::{Desk, Place, Refusal, Standing, PLACES_PER_LEVEL};
 use crate::generator;
 use crate::progress::each_seed;
-use crate::run::Run;
+use crate::run::{Run, BY_THE_RULES};
 use crate::stop::Stop;
 use crate::wire::{split_header, Operation, Reply, Request, REPLY_BYTES, REQUEST_BYTES};
 use delays::{Delay, Delays};
@@ -75,7 +75,7 @@ struct Counts {
 
 impl Counts {
     fn note_input(&mut self, input: &[u8]) {
-        let mut run = Run::new(Desk::answer);
+        let mut run = Run::new(BY_THE_RULES);
         let (header, mut requests) = split_header(input);
         let mut refusal = run.feed(header);
         if run.desk().is_some() {

@@ -24,8 +24,7 @@ mod wire;
 mod words;
 
 use compare::Inputs;
-use desk::Desk;
-use run::Answer;
+use run::{Conduct, BY_THE_RULES};
 use std::io::{self, Read, Write};
 use std::process::ExitCode;
 use stop::Stop;
@@ -103,7 +102,7 @@ fn dispatch(words: &[&str]) -> Result<(), Stop> {
     }
     match *words {
         ["help"] => Ok(out.write_all(HELP.as_bytes())?),
-        ["run"] => run_here(Desk::answer),
+        ["run"] => run_here(BY_THE_RULES),
         ["slip", number] => run_here(numbered(&slips::SLIPS, number)?),
         ["gen", "--random", seed] => {
             Ok(out.write_all(&generator::random_bytes(parse(seed, "SEED")?))?)
@@ -173,8 +172,8 @@ fn compare_here(words: &[&str], out: &mut impl Write) -> Result<(), Stop> {
     }
 }
 
-fn run_here(answer: Answer) -> Result<(), Stop> {
-    Ok(run::serve(io::stdin().lock(), io::stdout().lock(), answer)?)
+fn run_here(conduct: Conduct) -> Result<(), Stop> {
+    Ok(run::serve(io::stdin().lock(), io::stdout().lock(), conduct)?)
 }
 
 fn maps_here(words: &[&str], out: &mut impl Write) -> Result<(), Stop> {

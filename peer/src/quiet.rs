@@ -5,7 +5,7 @@ use crate::compare::{answer_of, compare_one, explain_replies, first_difference, 
 use crate::cover::check_met;
 use crate::desk::{Desk, Item, Place, Refusal, LEVELS, PLACES_PER_LEVEL};
 use crate::progress::each_seed;
-use crate::run::{opened, Answer};
+use crate::run::{Conduct, BY_THE_RULES};
 use crate::stop::Stop;
 use crate::strike::{stays, Struck, STRUCK, WHOLE};
 use crate::wire::{requests_in, split_header, Operation, Request, REPLY_BYTES};
@@ -25,7 +25,7 @@ pub fn quiet(
         let input = inputs.bytes(seed);
         let checked = check_replies(command, &input).and_then(|replies| {
             compared += replies;
-            check_houses(&input, Desk::answer, &mut met).map_err(Stop::Found)
+            check_houses(&input, BY_THE_RULES, &mut met).map_err(Stop::Found)
         });
         checked.map_err(|stop| stop.on_input_of(&inputs.how_to_make(seed)))
     })?;
@@ -72,19 +72,19 @@ fn up_to(desk: &Desk, k: u8) -> impl PartialEq + '_ {
 
 /// A second reading of CR 3, on the peer's own desk: after each request the house of the whole list
 /// and that of the struck one are the same up to k. Notes what the whole list meets.
-fn check_houses(input: &[u8], answer: Answer, met: &mut Met) -> Result<(), String> {
+fn check_houses(input: &[u8], conduct: Conduct, met: &mut Met) -> Result<(), String> {
     let (header, requests) = split_header(input);
-    let Some(mut whole) = opened(header) else {
+    let Some(Ok(mut whole)) = (conduct.open)(header) else {
         return Ok(());
     };
     let mut struck = vec![whole.clone(); LEVELS.into()];
     for (request, number) in requests_in(requests).zip(1..) {
         let before = whole.clone();
-        let reply = answer(&mut whole, &request);
+        let reply = (conduct.answer)(&mut whole, &request);
         for (k, desk) in (0..LEVELS).zip(&mut struck) {
             met.note(&Moment { k, house: &before, request: &request, number: reply.number });
             if stays(&request, k) {
-                answer(desk, &request);
+                (conduct.answer)(desk, &request);
             }
             if up_to(&whole, k) != up_to(desk, k) {
                 return Err(explain_houses(k, number, &request, &whole, desk));
@@ -216,7 +216,7 @@ mod tests {
         let mut met = Met::default();
         for seed in seeds {
             let input = generator::input(seed, requests);
-            check_houses(&input, Desk::answer, &mut met).expect("no house shows what was struck");
+            check_houses(&input, BY_THE_RULES, &mut met).expect("no house shows what was struck");
         }
         met
     }
@@ -239,10 +239,10 @@ mod tests {
     /// house.
     #[test]
     fn the_houses_show_what_a_level_below_can_notice() {
-        for (number, (name, answer)) in (1..).zip(SLIPS) {
+        for (number, (name, conduct)) in (1..).zip(SLIPS) {
             let shows = |seed: &u64| {
                 let input = generator::input(*seed, 400);
-                check_houses(&input, answer, &mut Met::default()).is_err()
+                check_houses(&input, conduct, &mut Met::default()).is_err()
             };
             let found = (0..15).filter(shows).count();
             assert_eq!(found > 0, [2, 10, 11].contains(&number), "{found} of 15: {name}");

@@ -4,8 +4,27 @@ use crate::desk::{Desk, Refusal, MOST_ITEMS};
 use crate::wire::{split_header, Reply, Request, REQUEST_BYTES};
 use std::io::{self, Read, Write};
 
-/// How a desk answers: `Desk::answer`, or one of the deliberate slips.
+/// Opens a house from the bytes that have come: None until the whole header is there.
+pub type Open = fn(&[u8]) -> Option<Result<Desk, Refusal>>;
 pub type Answer = fn(&mut Desk, &Request) -> Reply;
+
+/// How a desk opens and answers: as the rules say, or with one of the deliberate slips.
+#[derive(Clone, Copy)]
+pub struct Conduct {
+    pub open: Open,
+    pub answer: Answer,
+}
+
+pub const BY_THE_RULES: Conduct = Conduct { open, answer: Desk::answer };
+
+/// A count above 64 is refused without its levels.
+pub fn open(bytes: &[u8]) -> Option<Result<Desk, Refusal>> {
+    let (&count, rest) = bytes.split_first()?;
+    if usize::from(count) > MOST_ITEMS {
+        return Some(Err(Refusal::ItemCount));
+    }
+    rest.get(..usize::from(count)).map(Desk::open)
+}
 
 enum State {
     Opening,
@@ -15,15 +34,15 @@ enum State {
 
 /// One run of the program, fed with input as it comes.
 pub struct Run {
-    answer: Answer,
+    conduct: Conduct,
     state: State,
     /// What has arrived and is not yet a whole header or request.
     waiting: Vec<u8>,
 }
 
 impl Run {
-    pub fn new(answer: Answer) -> Run {
-        Run { answer, state: State::Opening, waiting: Vec::new() }
+    pub fn new(conduct: Conduct) -> Run {
+        Run { conduct, state: State::Opening, waiting: Vec::new() }
     }
 
     /// The house, while there is one.
@@ -42,7 +61,7 @@ impl Run {
     pub fn feed(&mut self, bytes: &[u8]) -> Vec<u8> {
         self.waiting.extend_from_slice(bytes);
         if matches!(self.state, State::Opening) {
-            match self.opening() {
+            match (self.conduct.open)(&self.waiting) {
                 None => return Vec::new(),
                 Some(Err(refusal)) => return self.stop(refusal),
                 Some(Ok(desk)) => {
@@ -62,15 +81,6 @@ impl Run {
         }
     }
 
-    /// None until the whole header is there. A count above 64 is refused without its levels.
-    fn opening(&self) -> Option<Result<Desk, Refusal>> {
-        let (&count, rest) = self.waiting.split_first()?;
-        if usize::from(count) > MOST_ITEMS {
-            return Some(Err(Refusal::ItemCount));
-        }
-        rest.get(..usize::from(count)).map(Desk::open)
-    }
-
     fn stop(&mut self, refusal: Refusal) -> Vec<u8> {
         self.state = State::Stopped;
         Reply { number: refusal.number(), ..Reply::default() }.to_bytes().to_vec()
@@ -80,7 +90,7 @@ impl Run {
         let State::Open(desk) = &mut self.state else {
             return Vec::new();
         };
-        let (replies, rest) = answer_whole(desk, self.answer, &self.waiting);
+        let (replies, rest) = answer_whole(desk, self.conduct.answer, &self.waiting);
         self.waiting = rest.to_vec();
         replies
     }
@@ -103,9 +113,7 @@ pub fn answer_whole<'a>(
 
 /// The house that this header opens, if it is whole and not refused.
 pub fn opened(header: &[u8]) -> Option<Desk> {
-    let mut run = Run::new(Desk::answer);
-    run.feed(header);
-    run.desk().cloned()
+    open(header).and_then(Result::ok)
 }
 
 /// How many replies are due to a whole input: one to each whole request, or one to an opening that
@@ -116,16 +124,16 @@ pub fn replies_due(input: &[u8]) -> usize {
 }
 
 /// All that the program writes for this whole input.
-pub fn output_for(input: &[u8], answer: Answer) -> Vec<u8> {
-    let mut run = Run::new(answer);
+pub fn output_for(input: &[u8], conduct: Conduct) -> Vec<u8> {
+    let mut run = Run::new(conduct);
     let mut output = run.feed(input);
     output.extend(run.end());
     output
 }
 
 /// Runs until the input ends or the opening is refused. Each reply leaves as soon as it is due.
-pub fn serve(mut input: impl Read, mut output: impl Write, answer: Answer) -> io::Result<()> {
-    let mut run = Run::new(answer);
+pub fn serve(mut input: impl Read, mut output: impl Write, conduct: Conduct) -> io::Result<()> {
+    let mut run = Run::new(conduct);
     let mut buffer = [0; 1 << 16];
     while !run.is_stopped() {
         let replies = match input.read(&mut buffer) {
@@ -156,7 +164,7 @@ mod tests {
 
     #[test]
     fn the_worked_day() {
-        assert_eq!(output_for(&DAY_INPUT, Desk::answer), DAY_OUTPUT);
+        assert_eq!(output_for(&DAY_INPUT, BY_THE_RULES), DAY_OUTPUT);
     }
 
     #[test]
@@ -172,19 +180,19 @@ mod tests {
             (&[2, 0, 255, 0, 0, 0, 0, 0, 0, 0, 0, 0, 0, 0, 0], 14),
         ];
         for (input, number) in cases {
-            assert_eq!(output_for(input, Desk::answer), refused(number), "input {input:?}");
+            assert_eq!(output_for(input, BY_THE_RULES), refused(number), "input {input:?}");
         }
-        assert_eq!(output_for(&[1, 0], Desk::answer), Vec::new());
-        assert_eq!(output_for(&DAY_INPUT[..37], Desk::answer), DAY_OUTPUT[..32]);
+        assert_eq!(output_for(&[1, 0], BY_THE_RULES), Vec::new());
+        assert_eq!(output_for(&DAY_INPUT[..37], BY_THE_RULES), DAY_OUTPUT[..32]);
     }
 
     #[test]
     fn pieces_do_not_matter() {
         for seed in 0..60 {
             let input = generator::input(seed, 20);
-            let whole = output_for(&input, Desk::answer);
+            let whole = output_for(&input, BY_THE_RULES);
             for size in 1..30 {
-                let mut run = Run::new(Desk::answer);
+                let mut run = Run::new(BY_THE_RULES);
                 let mut output = Vec::new();
                 for piece in input.chunks(size) {
                     output.extend(run.feed(piece));
@@ -199,7 +207,7 @@ mod tests {
     fn as_many_replies_come_as_are_due() {
         for seed in 0..200 {
             for input in [generator::input(seed, 20), generator::random_bytes(seed)] {
-                let output = output_for(&input, Desk::answer);
+                let output = output_for(&input, BY_THE_RULES);
                 assert_eq!(output.len(), replies_due(&input) * REPLY_BYTES, "seed {seed}");
             }
         }
@@ -210,8 +218,8 @@ mod tests {
         for seed in 0..60 {
             let input = generator::input(seed, 50);
             let mut output = Vec::new();
-            serve(input.as_slice(), &mut output, Desk::answer).expect("reading from memory");
-            assert_eq!(output, output_for(&input, Desk::answer));
+            serve(input.as_slice(), &mut output, BY_THE_RULES).expect("reading from memory");
+            assert_eq!(output, output_for(&input, BY_THE_RULES));
         }
     }
 }

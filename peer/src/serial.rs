@@ -167,8 +167,8 @@ mod tests {
 
     #[test]
     fn a_commit_after_a_signal_is_noticed() {
-        let (_, answer) = SLIPS[5];
-        let failed = (0..40).filter_map(|seed| check_run(seed, 400, answer).err());
+        let (_, slip) = SLIPS[5];
+        let failed = (0..40).filter_map(|seed| check_run(seed, 400, slip.answer).err());
         assert!(failed.count() > 0);
     }
 }

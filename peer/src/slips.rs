@@ -3,34 +3,39 @@
 //! not worth running.
 
 use crate::desk::{delayed_by, Cell, Desk, Place, Refusal, Standing, LEVELS, PLACES_PER_LEVEL};
-use crate::run::Answer;
+use crate::run::{self, Answer, Conduct};
 use crate::wire::{Operation, Reply, Request};
 use std::cmp::Reverse;
 
-pub const SLIPS: [(&str, Answer); 19] = [
-    ("tells the certifier how many readers were signalled", tells_count),
-    ("delays a certify for a reader above", delays_for_reader_above),
-    ("counts a transaction's own read lock against its certify", counts_own_read),
-    ("converts the free items of a certify and leaves the rest", converts_free_items),
-    ("gives an ended transaction's ticket again", gives_old_ticket),
-    ("lets a certified transaction commit after it was signalled", commits_when_signalled),
-    ("takes a blank sheet", takes_blank),
-    ("tells of a blank sheet before it looks whose item it is", tells_blank_early),
-    ("tells of a blank sheet only where nothing else is wrong", tells_blank_late),
-    ("counts the tickets of all levels with one counter", counts_tickets_together),
-    ("begins while any of the 32 places is free", begins_in_any_place),
-    ("looks a ticket up at seven places of its level", goes_round_seven),
-    ("names the holder at the highest place", names_highest_place),
-    ("names the asker itself, which has read what it wrote", names_asker),
-    ("names a reader above to a certifier", names_reader_above),
+pub const SLIPS: [(&str, Conduct); 19] = [
+    ("tells the certifier how many readers were signalled", answers(tells_count)),
+    ("delays a certify for a reader above", answers(delays_for_reader_above)),
+    ("counts a transaction's own read lock against its certify", answers(counts_own_read)),
+    ("converts the free items of a certify and leaves the rest", answers(converts_free_items)),
+    ("gives an ended transaction's ticket again", answers(gives_old_ticket)),
+    ("lets a certified transaction commit after it was signalled", answers(commits_when_signalled)),
+    ("takes a blank sheet", answers(takes_blank)),
+    ("tells of a blank sheet before it looks whose item it is", answers(tells_blank_early)),
+    ("tells of a blank sheet only where nothing else is wrong", answers(tells_blank_late)),
+    ("counts the tickets of all levels with one counter", answers(counts_tickets_together)),
+    ("begins while any of the 32 places is free", answers(begins_in_any_place)),
+    ("looks a ticket up at seven places of its level", answers(goes_round_seven)),
+    ("names the holder at the highest place", answers(names_highest_place)),
+    ("names the asker itself, which has read what it wrote", answers(names_asker)),
+    ("names a reader above to a certifier", answers(names_reader_above)),
     (
         "tells the holder's level for its ticket and its ticket for its level",
-        swaps_ticket_and_level,
+        answers(swaps_ticket_and_level),
     ),
-    ("names the holder at the lowest place on whatever item", looks_at_places_first),
-    ("takes the holder for one of the asker's level", tells_own_level),
-    ("names whoever has a lock on the item, in the way or not", names_any_lock),
+    ("names the holder at the lowest place on whatever item", answers(looks_at_places_first)),
+    ("takes the holder for one of the asker's level", answers(tells_own_level)),
+    ("names whoever has a lock on the item, in the way or not", answers(names_any_lock)),
 ];
+
+/// A desk that opens by the rules and answers so.
+const fn answers(answer: Answer) -> Conduct {
+    Conduct { open: run::open, answer }
+}
 
 fn signals(desk: &Desk) -> usize {
     desk.places.iter().map(|place| place.signalled().len()).sum()

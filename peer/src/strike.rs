@@ -58,8 +58,7 @@ fn kept(bytes: &[u8], size: usize, stays: &[bool]) -> Vec<u8> {
 #[cfg(test)]
 mod tests {
     use super::*;
-    use crate::desk::Desk;
-    use crate::run::output_for;
+    use crate::run::{output_for, BY_THE_RULES};
 
     /// A request of 12 bytes and a reply of 16 that can be told from others.
     fn request(level: u8, mark: u8) -> [u8; REQUEST_BYTES] {
@@ -105,7 +104,7 @@ mod tests {
             let input = [header, behind].concat();
             let struck = Struck::of(&input, 2);
             assert_eq!(struck.input, [header, left].concat(), "{header:?}");
-            let output = output_for(&input, Desk::answer);
+            let output = output_for(&input, BY_THE_RULES);
             assert_eq!((struck.is_opened, struck.replies(&output)), (false, output), "{header:?}");
         }
     }
