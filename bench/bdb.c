@@ -109,16 +109,16 @@ static void release(struct place *me) {
     me->reads = me->writes = me->signalled = 0;
 }
 
-int bdb_open(const uint8_t *levels, size_t n) {
+int bdb_open(const struct opening *o) {
     for (int p = 0; p < PLACES; p++)
         if (house.places[p].standing != FREE) release(&house.places[p]);
     memset(&house, 0, sizeof house);
     calls = 0;
     for (int l = 0; l < LEVELS; l++) house.next_ticket[l] = 1;
-    int refusal = misopened(levels, n);
+    int refusal = misopened(o);
     if (refusal) return refusal;
-    house.count = n;
-    memcpy(house.level, levels, n);
+    house.count = o->levels_len;
+    memcpy(house.level, o->levels, o->levels_len);
     return 0;
 }
 

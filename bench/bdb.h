@@ -9,7 +9,7 @@ bool bdb_start(void);
 void bdb_stop(void);
 
 // Lets all locks and locker ids of an earlier run go, and opens. Gives 0, 13 or 14.
-int bdb_open(const uint8_t *levels, size_t n);
+int bdb_open(const struct opening *o);
 
 size_t bdb_turn(const uint8_t *requests, size_t requests_len, uint8_t *replies, size_t replies_len,
                 size_t most);

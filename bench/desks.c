@@ -13,40 +13,41 @@
 #include <string.h>
 
 // Opening a C desk or the proved one is part of its run: the proved calls open for themselves.
-static int open_later(const uint8_t *levels, size_t n) { return misopened(levels, n); }
+static int open_later(const struct opening *o) { return misopened(o); }
 
-static size_t run_plain(const uint8_t *levels, size_t n, const uint8_t *requests,
-                        size_t requests_len, uint8_t *replies, size_t replies_len) {
+static size_t run_plain(const struct opening *o, const uint8_t *requests, size_t requests_len,
+                        uint8_t *replies, size_t replies_len) {
     struct plain_house house;
-    if (plain_open(&house, levels, n) != 0) return 0;
+    if (plain_open(&house, o) != 0) return 0;
     return plain_turn(&house, requests, requests_len, replies, replies_len, SIZE_MAX);
 }
 
-static size_t run_tuned(const uint8_t *levels, size_t n, const uint8_t *requests,
-                        size_t requests_len, uint8_t *replies, size_t replies_len) {
+static size_t run_tuned(const struct opening *o, const uint8_t *requests, size_t requests_len,
+                        uint8_t *replies, size_t replies_len) {
     struct tuned_house house;
-    if (tuned_open(&house, levels, n) != 0) return 0;
+    if (tuned_open(&house, o) != 0) return 0;
     return tuned_turn(&house, requests, requests_len, replies, replies_len, SIZE_MAX);
 }
 
 #ifdef WITH_BDB
-static size_t run_bdb(const uint8_t *levels, size_t n, const uint8_t *requests,
-                      size_t requests_len, uint8_t *replies, size_t replies_len) {
-    (void)levels, (void)n;
+static size_t run_bdb(const struct opening *o, const uint8_t *requests, size_t requests_len,
+                      uint8_t *replies, size_t replies_len) {
+    (void)o;
     return bdb_turn(requests, requests_len, replies, replies_len, SIZE_MAX);
 }
 #endif
 
 #ifdef WITH_PROVED
-static size_t run_turn(const uint8_t *levels, size_t n, const uint8_t *requests,
-                       size_t requests_len, uint8_t *replies, size_t replies_len) {
-    return desk_fresh_turn(levels, n, requests, requests_len, replies, replies_len, SIZE_MAX);
+static size_t run_turn(const struct opening *o, const uint8_t *requests, size_t requests_len,
+                       uint8_t *replies, size_t replies_len) {
+    return desk_fresh_turn(o->levels, o->levels_len, requests, requests_len, replies, replies_len,
+                           SIZE_MAX);
 }
 
-static size_t run_in_place(const uint8_t *levels, size_t n, const uint8_t *requests,
-                           size_t requests_len, uint8_t *replies, size_t replies_len) {
-    return desk_fresh_turn_in_place(levels, n, requests, requests_len, replies, replies_len,
-                                    SIZE_MAX);
+static size_t run_in_place(const struct opening *o, const uint8_t *requests, size_t requests_len,
+                           uint8_t *replies, size_t replies_len) {
+    return desk_fresh_turn_in_place(o->levels, o->levels_len, requests, requests_len, replies,
+                                    replies_len, SIZE_MAX);
 }
 #endif
 

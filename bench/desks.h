@@ -7,9 +7,9 @@
 struct desk {
     const char *name;    // short, for the command line and the raw figures
     // Before each run, outside the time measured; gives 0 or the number of a refused opening.
-    int (*open)(const uint8_t *levels, size_t n);
+    int (*open)(const struct opening *o);
     // Answers all requests, from a house as opened, and gives their count.
-    size_t (*run)(const uint8_t *levels, size_t n, const uint8_t *requests, size_t requests_len,
+    size_t (*run)(const struct opening *o, const uint8_t *requests, size_t requests_len,
                   uint8_t *replies, size_t replies_len);
 };
 

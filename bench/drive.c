@@ -9,16 +9,17 @@ int main(int argc, char **argv) {
     size_t len;
     uint8_t *input = read_all(&len);
     if (!input || !desks_start()) return 2;
-    size_t n = len > 0 ? input[0] : 0;
+    size_t n = len > 0 ? input[0] : 0, header = 1 + n;
+    struct opening o = {input + 1, n};
     // Levels cut short give 13, as no levels do.
-    int refusal = n >= len ? ITEM_COUNT : desk->open(input + 1, n);
-    size_t count = refusal ? 1 : (len - 1 - n) / REQUEST_BYTES;
+    int refusal = header > len ? ITEM_COUNT : desk->open(&o);
+    size_t count = refusal ? 1 : (len - header) / REQUEST_BYTES;
     uint8_t *replies = calloc(count + 1, REPLY_BYTES);
     if (!replies) return 2;
     if (refusal)
         replies[0] = (uint8_t)refusal;
     else
-        count = desk->run(input + 1, n, input + 1 + n, len - 1 - n, replies, count * REPLY_BYTES);
+        count = desk->run(&o, input + header, len - header, replies, count * REPLY_BYTES);
     bool written = fwrite(replies, REPLY_BYTES, count, stdout) == count && fflush(stdout) == 0;
     desks_stop();
     free(input);

@@ -33,13 +33,12 @@ static uint64_t now(void) {
 // All that is timed, and all that is counted: callgrind collects while this function runs.
 __attribute__((noinline)) size_t served(const struct desk *desk, const uint8_t *requests,
                                         size_t count, uint8_t *replies) {
-    return desk->run(traffic_levels, TRAFFIC_ITEMS, requests, count * REQUEST_BYTES, replies,
-                     count * REPLY_BYTES);
+    return desk->run(&traffic_opening, requests, count * REQUEST_BYTES, replies, count * REPLY_BYTES);
 }
 
 static uint64_t serve_all(const struct desk *desk, const uint8_t *requests, size_t count,
                           uint8_t *replies) {
-    desk->open(traffic_levels, TRAFFIC_ITEMS);
+    desk->open(&traffic_opening);
     uint64_t began = now();
     size_t answered = served(desk, requests, count, replies);
     uint64_t took = now() - began;
@@ -177,10 +176,9 @@ static size_t replies_to(const struct way *way) { return 1 + way->reads + way->i
 static size_t call(const struct way *way, uint8_t *replies) {
     uint8_t *of_reads = replies + REPLY_BYTES;
     if (way->desk)
-        return way->desk->run(traffic_levels, MOST_ITEMS, asked, replies_to(way) * REQUEST_BYTES, replies,
-                              replies_to(way) * REPLY_BYTES);
-    return desk_fresh_map(traffic_levels, MOST_ITEMS, asked, REQUEST_BYTES, replies, REPLY_BYTES, TOP, 1, listed,
-                          way->items, of_reads, way->items * REPLY_BYTES, asked + REQUEST_BYTES,
+        return way->desk->run(&full_opening, asked, replies_to(way) * REQUEST_BYTES, replies, replies_to(way) * REPLY_BYTES);
+    return desk_fresh_map(full_opening.levels, full_opening.levels_len, asked, REQUEST_BYTES, replies, REPLY_BYTES, TOP,
+                          1, listed, way->items, of_reads, way->items * REPLY_BYTES, asked + REQUEST_BYTES,
                           way->reads * REQUEST_BYTES, of_reads, way->reads * REPLY_BYTES);
 }
 

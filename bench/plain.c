@@ -5,13 +5,13 @@
 
 enum { NOBODY = -1 };
 
-int plain_open(struct plain_house *h, const uint8_t *levels, size_t n) {
+int plain_open(struct plain_house *h, const struct opening *o) {
     memset(h, 0, sizeof *h);
     for (int l = 0; l < LEVELS; l++) h->next_ticket[l] = 1;
-    int refusal = misopened(levels, n);
+    int refusal = misopened(o);
     if (refusal) return refusal;
-    h->count = n;
-    for (size_t i = 0; i < n; i++) h->items[i].level = levels[i];
+    h->count = o->levels_len;
+    for (size_t i = 0; i < h->count; i++) h->items[i].level = o->levels[i];
     return 0;
 }
 

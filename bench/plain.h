@@ -26,7 +26,7 @@ struct plain_house {
 };
 
 // Gives 0, or the number of the refused opening (13, 14).
-int plain_open(struct plain_house *h, const uint8_t *levels, size_t n);
+int plain_open(struct plain_house *h, const struct opening *o);
 
 // Answers whole requests in order and gives their count.
 size_t plain_turn(struct plain_house *h, const uint8_t *requests, size_t requests_len,

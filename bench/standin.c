@@ -4,13 +4,13 @@
 
 uint8_t desk_fresh_open(const uint8_t *levels, size_t levels_len) {
     struct plain_house house;
-    return (uint8_t)plain_open(&house, levels, levels_len);
+    return (uint8_t)plain_open(&house, &(struct opening){levels, levels_len});
 }
 
 size_t desk_fresh_turn(const uint8_t *levels, size_t levels_len, const uint8_t *requests,
                        size_t requests_len, uint8_t *replies, size_t replies_len, size_t most) {
     struct plain_house house;
-    plain_open(&house, levels, levels_len);
+    plain_open(&house, &(struct opening){levels, levels_len});
     return plain_turn(&house, requests, requests_len, replies, replies_len, most);
 }
 
@@ -25,7 +25,7 @@ size_t desk_fresh_map(const uint8_t *levels, size_t levels_len,
                       uint8_t *replies, size_t replies_len,
                       const uint8_t *after, size_t after_len, uint8_t *later, size_t later_len) {
     struct plain_house house;
-    plain_open(&house, levels, levels_len);
+    plain_open(&house, &(struct opening){levels, levels_len});
     plain_turn(&house, before, before_len, earlier, earlier_len, SIZE_MAX);
     size_t count = 0;
     for (; count < items_len && count < replies_len / REPLY_BYTES; count++) {

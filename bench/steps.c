@@ -20,15 +20,15 @@ static struct outcome step(struct plain_house h, struct request q) {
     return o;
 }
 
-size_t steps_run(const uint8_t *levels, size_t n, const uint8_t *requests, size_t requests_len,
+size_t steps_run(const struct opening *o, const uint8_t *requests, size_t requests_len,
                  uint8_t *replies, size_t replies_len) {
     struct plain_house house;
-    if (plain_open(&house, levels, n) != 0) return 0;
+    if (plain_open(&house, o) != 0) return 0;
     size_t count = turn_length(requests_len, replies_len, SIZE_MAX);
     for (size_t k = 0; k < count; k++) {
-        struct outcome o = step(house, request_from(requests + k * REQUEST_BYTES));
-        house = o.house;
-        reply_to(replies + k * REPLY_BYTES, o.reply);
+        struct outcome next = step(house, request_from(requests + k * REQUEST_BYTES));
+        house = next.house;
+        reply_to(replies + k * REPLY_BYTES, next.reply);
     }
     return count;
 }

@@ -7,7 +7,8 @@ const char *const mix_names[MIXES] = {"refused", "done", "pressed", "lessons"};
 _Static_assert(ITEMS % 4 == 0 && ITEMS > 0 && ITEMS <= 64, "items of the traffic");
 #define FOUR 0, 1, 2, 3
 #define SIXTEEN FOUR, FOUR, FOUR, FOUR
-const uint8_t traffic_levels[MOST_ITEMS] = {SIXTEEN, SIXTEEN, SIXTEEN, SIXTEEN};
+static const uint8_t levels[MOST_ITEMS] = {SIXTEEN, SIXTEEN, SIXTEEN, SIXTEEN};
+const struct opening traffic_opening = {levels, TRAFFIC_ITEMS}, full_opening = {levels, MOST_ITEMS};
 
 // Of a thousand requests.
 struct recipe {
@@ -180,7 +181,7 @@ static struct request next_request(struct maker *m) {
 
 void traffic_make(enum mix mix, uint64_t seed, uint8_t *requests, size_t count) {
     struct maker m = {.state = seed, .recipe = &recipes[mix]};
-    plain_open(&m.house, traffic_levels, TRAFFIC_ITEMS);
+    plain_open(&m.house, &traffic_opening);
     for (size_t k = 0; k < count; k++) {
         uint8_t *request = requests + k * REQUEST_BYTES, reply[REPLY_BYTES];
         request_to(request, next_request(&m));

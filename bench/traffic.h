@@ -13,7 +13,8 @@ extern const char *const mix_names[MIXES];   // short, for the command line and 
 #define ITEMS 16
 #endif
 enum { TRAFFIC_ITEMS = ITEMS };
-extern const uint8_t traffic_levels[MOST_ITEMS];   // the first TRAFFIC_ITEMS count
+extern const struct opening traffic_opening;
+extern const struct opening full_opening;   // of a house of MOST_ITEMS
 
 // Writes `count` requests. The same mix, count and seed always give the same bytes, and a smaller
 // count gives the first of them.

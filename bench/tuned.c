@@ -7,13 +7,13 @@
 enum { READS = 1, WRITES = 2, CERTIFIES = 4, IS_SIGNALLED = 8 };
 enum { NOBODY = -1 };
 
-int tuned_open(struct tuned_house *h, const uint8_t *levels, size_t n) {
+int tuned_open(struct tuned_house *h, const struct opening *o) {
     memset(h, 0, sizeof *h);
     for (int l = 0; l < LEVELS; l++) h->next_ticket[l] = 1;
-    int refusal = misopened(levels, n);
+    int refusal = misopened(o);
     if (refusal) return refusal;
-    h->count = n;
-    memcpy(h->level, levels, n);
+    h->count = o->levels_len;
+    memcpy(h->level, o->levels, o->levels_len);
     return 0;
 }
 

@@ -14,7 +14,7 @@ struct tuned_house {
     uint8_t cells[PLACES][MOST_ITEMS];
 };
 
-int tuned_open(struct tuned_house *h, const uint8_t *levels, size_t n);
+int tuned_open(struct tuned_house *h, const struct opening *o);
 
 size_t tuned_turn(struct tuned_house *h, const uint8_t *requests, size_t requests_len,
                   uint8_t *replies, size_t replies_len, size_t most);

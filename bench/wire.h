@@ -108,11 +108,17 @@ static inline int misshapen(const struct request *q) {
     return 0;
 }
 
+// What a house is opened with.
+struct opening {
+    const uint8_t *levels;
+    size_t levels_len;
+};
+
 // 0, or the number of a refused opening.
-static inline int misopened(const uint8_t *levels, size_t n) {
-    if (n == 0 || n > MOST_ITEMS) return ITEM_COUNT;
-    for (size_t i = 0; i < n; i++)
-        if (levels[i] >= LEVELS) return LEVEL_BYTE;
+static inline int misopened(const struct opening *o) {
+    if (o->levels_len == 0 || o->levels_len > MOST_ITEMS) return ITEM_COUNT;
+    for (size_t i = 0; i < o->levels_len; i++)
+        if (o->levels[i] >= LEVELS) return LEVEL_BYTE;
     return 0;
 }
 
