@@ -1,14 +1,13 @@
 // The judge: what is ruled of a request, over the parts of the house that its level can see. It changes nothing, so a
 // refusal or a delay leaves the house as it was by construction.
 
-mod places;
 mod scans;
 
 ghost use mathlib.Core.Path.{_≡_};
 ghost use mathlib.Core.Bool.{_||_, not};
 ghost use Prim.Native.Nat.{_+_, _*_, _<_};
 ghost use lib.Dec.{leb};
-ghost use Rattle.house.specs.House.{dominates, vacancy};
+ghost use Rattle.house.specs.House.{dominates, isActive, isCertified, vacancy};
 ghost use Rattle.house.specs.Rules.{noOperation, noLevel, unusedSet, readAnswer, askAnswer};
 ghost use Rattle.ruling.specs.declared.Ruling.the-variants.{Grant};
 ghost use Rattle.ruling.specs.Judged.{Judged, beginRuled, readRuled, writeRuled, certifyRuled, commitRuled, knownRuled};
@@ -18,9 +17,8 @@ use house::Item;
 use house::Mark;
 use house::Place;
 use house::Request;
+use house::Standing;
 use parts::grow;
-use places::is_active;
-use places::is_certified;
 use places::lookup;
 use places::lowest_free;
 use ruling::Case;
@@ -35,6 +33,26 @@ use scans::is_signalled;
 use scans::lowest_holder;
 use scans::other_claims;
 use scans::other_holds;
+
+fn is_active(s: Standing) -> bool
+    ensures { λ r. ⌜ r ≡ isActive s ⌝ }
+{
+    match s {
+        Standing::Free => false,
+        Standing::Active => true,
+        Standing::Certified => false,
+    }
+}
+
+fn is_certified(s: Standing) -> bool
+    ensures { λ r. ⌜ r ≡ isCertified s ⌝ }
+{
+    match s {
+        Standing::Free => false,
+        Standing::Active => false,
+        Standing::Certified => true,
+    }
+}
 
 fn no_operation(q: Request) -> bool
     ensures { λ r. ⌜ r ≡ noOperation q ⌝ }

@@ -18,8 +18,8 @@ use Rattle.house.specs.declared.Found.{Found}
 use Rattle.house.specs.declared.Found.the-variants.{At, Nobody}
 use Rattle.house.specs.House.{placeAt, isFree, freeAt, hasTicket, seek}
 use Rattle.house.specs.Search.{scan, onRound, findRound}
-use Rattle.judge.proofs.places.lookup.Statement.{statement}
-use Rattle.judge.proofs.places.lookup.Tie as tie
+use Rattle.places.proofs.lookup.Statement.{statement}
+use Rattle.places.proofs.lookup.Tie as tie
 
 not-yet : (k n : ℕ) → k ≤ n → k ≢ n → k < n
 not-yet k n a b = omega arith

@@ -4,8 +4,8 @@ use borrow.Author.Needs.{needs}
 use Rattle.house.proofs.Searches.{searched}
 use Rattle.house.specs.House.{freeAt, vacancy}
 use Rattle.house.specs.Search.{find}
-use Rattle.judge.proofs.places.lowest_free.Statement.{statement}
-use Rattle.judge.proofs.places.lowest_free.Tie as tie
+use Rattle.places.proofs.lowest_free.Statement.{statement}
+use Rattle.places.proofs.lowest_free.Tie as tie
 
 abbrev Inv-loop : tie.InvT-loop
 Inv-loop eight k₀ k = find (freeAt eight) 0 8 ≡ find (freeAt eight) k (8 - k)

@@ -1,7 +1,7 @@
 // The searches over the eight places of one level, which are looked at as if they were those of level 0.
 
 ghost use mathlib.Core.Path.{_≡_};
-ghost use Rattle.house.specs.House.{isFree, isActive, isCertified, seek, vacancy};
+ghost use Rattle.house.specs.House.{isFree, seek, vacancy};
 use house::Found;
 use house::Place;
 use house::Standing;
@@ -16,29 +16,9 @@ fn is_free(s: Standing) -> bool
     }
 }
 
-pub(crate) fn is_active(s: Standing) -> bool
-    ensures { λ r. ⌜ r ≡ isActive s ⌝ }
-{
-    match s {
-        Standing::Free => false,
-        Standing::Active => true,
-        Standing::Certified => false,
-    }
-}
-
-pub(crate) fn is_certified(s: Standing) -> bool
-    ensures { λ r. ⌜ r ≡ isCertified s ⌝ }
-{
-    match s {
-        Standing::Free => false,
-        Standing::Active => false,
-        Standing::Certified => true,
-    }
-}
-
 // The search goes round from the ticket modulo 8 and stops at the place found. Ticket 0 names nobody: it is told once, before the
 // search, not at each place. A place is mostly passed by its ticket, so that is read by itself.
-pub(crate) fn lookup(eight: [Place; 8], ticket: u32) -> Found
+pub fn lookup(eight: [Place; 8], ticket: u32) -> Found
     ensures { λ r. ⌜ r ≡ seek eight 0 ticket ⌝ }
 {
     if ticket == 0 {
@@ -62,7 +42,7 @@ pub(crate) fn lookup(eight: [Place; 8], ticket: u32) -> Found
     Found::At(place)
 }
 
-pub(crate) fn lowest_free(eight: [Place; 8]) -> Found
+pub fn lowest_free(eight: [Place; 8]) -> Found
     ensures { λ r. ⌜ r ≡ vacancy eight 0 ⌝ }
 {
     for k in 0..8 {
