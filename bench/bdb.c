@@ -34,6 +34,7 @@ static struct {
     uint8_t level[MOST_ITEMS];
     struct place places[PLACES];
     uint32_t next_ticket[LEVELS];
+    uint8_t order[TABLE_BYTES];
 } house;
 
 static DB_ENV *env;
@@ -115,8 +116,10 @@ int bdb_open(const struct opening *o) {
     memset(&house, 0, sizeof house);
     calls = 0;
     for (int l = 0; l < LEVELS; l++) house.next_ticket[l] = 1;
+    memcpy(house.order, chain, sizeof house.order);   // a refused opening holds the old chain
     int refusal = misopened(o);
     if (refusal) return refusal;
+    memcpy(house.order, o->table, sizeof house.order);
     house.count = o->levels_len;
     memcpy(house.level, o->levels, o->levels_len);
     return 0;
@@ -146,7 +149,7 @@ static int begin(const struct request *q, struct reply *a) {
 
 static int read_item(const struct request *q, struct place *me, struct reply *a) {
     if (q->item >= house.count) return NO_ITEM;
-    if (house.level[q->item] > q->level) return WRONG_LEVEL;
+    if (!dominates(house.order, q->level, house.level[q->item])) return WRONG_LEVEL;
     if (me->signalled) return SIGNALLED;
     if (me->standing != ACTIVE) return WRONG_TIME;
     uint64_t bit = UINT64_C(1) << q->item;
@@ -154,7 +157,7 @@ static int read_item(const struct request *q, struct place *me, struct reply *a)
     // and one from below has signalled it, which was answered 2 above.
     if (!(me->reads & bit)) {
         DB_LOCK lock;
-        int mode = house.level[q->item] < q->level ? MODE_SIGNAL : MODE_READ;
+        int mode = house.level[q->item] != q->level ? MODE_SIGNAL : MODE_READ;
         if (!locked(me->locker, q->item, mode, &lock)) return delayed(q, q->item, me, a);
         me->reads |= bit;
     }
@@ -215,8 +218,11 @@ static int certify(const struct request *q, struct place *me, struct reply *a) {
         // They were asked for from the lowest item on, and the first that was not granted ended it.
         if (!granted) return delayed(q, numbers[got], me, a);
     }
-    for (int p = (q->level + 1) * PLACES_PER_LEVEL; p < PLACES; p++)
-        house.places[p].signalled |= house.places[p].reads & me->writes;
+    for (int p = 0; p < PLACES; p++) {
+        int l = p / PLACES_PER_LEVEL;
+        if (l != q->level && dominates(house.order, l, q->level))
+            house.places[p].signalled |= house.places[p].reads & me->writes;
+    }
     me->standing = CERTIFIED;
     return DONE;
 }

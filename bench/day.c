@@ -1,4 +1,4 @@
-// The worked day and M1 to M12 of document 01, and a map, through the calls of the static library.
+// The worked day and M1 to M12 of document 01, two subjects side by side (CR 6), and a map, through the calls of the static library.
 // Says each difference; the exit status is 1 where there is one.
 #include "proved.h"
 #include "wire.h"
@@ -15,12 +15,19 @@ struct step {
 
 struct example {
     const char *name;
-    const uint8_t *levels;
-    size_t items, steps;
+    const struct opening *opening;
+    size_t steps;
     const struct step *step;
 };
 
-static const uint8_t marked_levels[] = {0, 0, 2}, day_levels[] = {0};
+// Pupils 0, geography 1, history 2, examiners 3.
+#define DIAMOND {1, 1, 1, 1, 0, 1, 0, 1, 0, 0, 1, 1, 0, 0, 0, 1}
+static const uint8_t diamond[TABLE_BYTES] = DIAMOND, no_order[TABLE_BYTES] = {0};
+static const uint8_t marked_levels[] = {0, 0, 2}, each_level[] = {0, 1, 2, 3};
+static const struct opening marked = {marked_levels, sizeof marked_levels, chain, sizeof chain},
+                            one_item = {each_level, 1, diamond, sizeof diamond},
+                            subjects = {each_level, sizeof each_level, diamond, sizeof diamond},
+                            refused = {each_level, sizeof each_level, no_order, sizeof no_order};
 
 // A request beside the reply it must get; l is a level, t a ticket, i an item, n a number; a delay has
 // its holder's ticket and level.
@@ -66,6 +73,24 @@ static const struct step m10[] = {UP_TO_M9,
 static const struct step m11[] = {UP_TO_M11};
 static const struct step m12[] = {UP_TO_M11, CALLS(ABORT, 0, 1, DONE),
                                   CALLS(CERTIFY, 2, 1, SIGNALLED)};
+// On the diamond, one item at each level: item 1 is geography's, item 2 history's.
+#define ONE_OF_EACH BEGINS(0, 1), BEGINS(1, 1), BEGINS(2, 1), BEGINS(3, 1)
+static const struct step geography_reads[] = {
+    ONE_OF_EACH, READS(1, 1, 0, 0, 0), READS(1, 1, 1, 0, 0), READ_REFUSED(1, 1, 2, WRONG_LEVEL),
+    READ_REFUSED(1, 1, 3, WRONG_LEVEL)};
+static const struct step history_reads[] = {
+    ONE_OF_EACH, READS(2, 1, 0, 0, 0), READ_REFUSED(2, 1, 1, WRONG_LEVEL), READS(2, 1, 2, 0, 0),
+    WRITES(2, 1, 1, 7, WRONG_LEVEL)};
+static const struct step pupil_certifies[] = {
+    ONE_OF_EACH, READS(1, 1, 0, 0, 0), READS(2, 1, 0, 0, 0), READS(3, 1, 0, 0, 0),
+    WRITES(0, 1, 0, 7, DONE), CALLS(CERTIFY, 0, 1, DONE), ASKS(1, 1, 0, 1), ASKS(2, 1, 0, 1),
+    ASKS(3, 1, 0, 1)};
+static const struct step geography_certifies[] = {
+    ONE_OF_EACH, READS(2, 1, 2, 0, 0), READS(3, 1, 1, 0, 0), WRITES(1, 1, 1, 7, DONE),
+    CALLS(CERTIFY, 1, 1, DONE), ASKS(0, 1, 0, 0), ASKS(2, 1, 0, 0), ASKS(3, 1, 1, 1),
+    CALLS(CERTIFY, 2, 1, DONE), CALLS(CERTIFY, 3, 1, SIGNALLED)};
+// A refused opening has no items, and its turn is served too.
+static const struct step without_items[] = {BEGINS(3, 1), READ_REFUSED(3, 1, 0, NO_ITEM)};
 // A map of level 2, ticket 1, that meets an item that does not exist, and an item again. Its lock on item 0 is signalled later.
 static const uint16_t map_items[] = {0, 3, 2, 0};
 static const struct step map_before[] = {THREE_OPEN};
@@ -85,22 +110,32 @@ static const uint8_t day_replies[] = {
     0, 0, 0, 0, 0, 0, 0, 0, 0, 1, 0, 0, 1, 0, 0, 0, 7, 0, 0, 0, 1, 0, 0, 0,
 };
 
-#define EXAMPLE(name, levels, steps)                                                             \
-    {name, levels, sizeof levels, sizeof steps / sizeof *steps, steps}
+#define EXAMPLE(name, opening, steps) {name, &opening, sizeof steps / sizeof *steps, steps}
 static const struct example examples[] = {
-    EXAMPLE("the worked day", day_levels, day), EXAMPLE("M1", marked_levels, m1),
-    EXAMPLE("M2", marked_levels, m2),           EXAMPLE("M3", marked_levels, m3),
-    EXAMPLE("M4", marked_levels, m4),           EXAMPLE("M5", marked_levels, m5),
-    EXAMPLE("M6", marked_levels, m6),           EXAMPLE("M7", marked_levels, m7),
-    EXAMPLE("M8", marked_levels, m8),           EXAMPLE("M9", marked_levels, m9),
-    EXAMPLE("M10", marked_levels, m10),         EXAMPLE("M11", marked_levels, m11),
-    EXAMPLE("M12", marked_levels, m12),
+    EXAMPLE("the worked day", one_item, day),
+    EXAMPLE("M1", marked, m1),
+    EXAMPLE("M2", marked, m2),
+    EXAMPLE("M3", marked, m3),
+    EXAMPLE("M4", marked, m4),
+    EXAMPLE("M5", marked, m5),
+    EXAMPLE("M6", marked, m6),
+    EXAMPLE("M7", marked, m7),
+    EXAMPLE("M8", marked, m8),
+    EXAMPLE("M9", marked, m9),
+    EXAMPLE("M10", marked, m10),
+    EXAMPLE("M11", marked, m11),
+    EXAMPLE("M12", marked, m12),
+    EXAMPLE("geography reads", subjects, geography_reads),
+    EXAMPLE("history reads", subjects, history_reads),
+    EXAMPLE("a pupil certifies", subjects, pupil_certifies),
+    EXAMPLE("geography certifies", subjects, geography_certifies),
+    EXAMPLE("a refused opening", refused, without_items),
 };
 
 static const struct example map_parts[] = {
-    EXAMPLE("before the map", marked_levels, map_before),
-    EXAMPLE("the map", marked_levels, map_reads),
-    EXAMPLE("after the map", marked_levels, map_after),
+    EXAMPLE("before the map", marked, map_before),
+    EXAMPLE("the map", marked, map_reads),
+    EXAMPLE("after the map", marked, map_after),
 };
 
 static void show(const char *what, const uint8_t *bytes, size_t len) {
@@ -136,23 +171,42 @@ static size_t calls, differing;
 
 static size_t least(size_t a, size_t b) { return a < b ? a : b; }
 
-// Openings: done, and refused by length before level.
+// Openings: done, and refused by length before level, by level before the table.
 static void try_openings(void) {
     static const struct {
         uint8_t levels[65];
         size_t count;
+        uint8_t table[TABLE_BYTES + 1];
+        size_t table_len;
         uint8_t number;
-    } openings[] = {{{0}, 1, 0}, {{0, 3, 1}, 3, 0}, {{0}, 0, 13}, {{4}, 65, 13}, {{0, 4}, 2, 14}};
+    } openings[] = {
+        {{0}, 1, DIAMOND, 16, 0},
+        {{0, 3, 1}, 3, {1, 1, 1, 1, 0, 1, 1, 1, 0, 0, 1, 1, 0, 0, 0, 1}, 16, 0},
+        {{3}, 1, {1, 0, 0, 0, 1, 1, 0, 0, 1, 1, 1, 0, 1, 1, 1, 1}, 16, 0},   // 0 above all
+        {{0}, 1, {1, 0, 0, 0, 0, 1, 0, 0, 0, 0, 1, 0, 0, 0, 0, 1}, 16, 0},   // none above another
+        {{0}, 0, DIAMOND, 16, 13},
+        {{4}, 65, DIAMOND, 16, 13},
+        {{0}, 1, DIAMOND, 0, 13},
+        {{0, 4}, 2, DIAMOND, 15, 13},
+        {{0, 4}, 2, DIAMOND, 17, 13},
+        {{0, 4}, 2, DIAMOND, 16, 14},
+        {{0, 4}, 2, {2}, 16, 14},
+        {{0}, 1, {2, 1, 1, 1, 0, 1, 0, 1, 0, 0, 1, 1, 0, 0, 0, 1}, 16, 16},
+        {{0}, 1, {1, 255, 1, 1, 0, 1, 0, 1, 0, 0, 1, 1, 0, 0, 0, 1}, 16, 16},
+        {{0}, 1, {1, 1, 1, 1, 0, 1, 0, 1, 0, 0, 0, 1, 0, 0, 0, 1}, 16, 16},   // 2 not by itself
+        {{0}, 1, {1, 1, 1, 1, 0, 1, 1, 1, 0, 1, 1, 1, 0, 0, 0, 1}, 16, 16},   // 1 and 2 by each other
+        {{0}, 1, {1, 1, 0, 0, 0, 1, 0, 1, 0, 0, 1, 1, 0, 0, 0, 1}, 16, 16},   // 0 by 1, 1 by 3, 0 not by 3
+    };
     for (size_t k = 0; k < sizeof openings / sizeof *openings; k++, calls++) {
-        uint8_t number = desk_fresh_open(openings[k].levels, openings[k].count);
+        uint8_t number = desk_fresh_open(openings[k].levels, openings[k].count, openings[k].table, openings[k].table_len);
         if (number == openings[k].number) continue;
         printf("opening %zu: %u, not %u\n", k + 1, number, openings[k].number);
         differing++;
     }
 }
 
-typedef size_t turn(const uint8_t *levels, size_t levels_len, const uint8_t *requests, size_t requests_len,
-                    uint8_t *replies, size_t replies_len, size_t most);
+typedef size_t turn(const uint8_t *levels, size_t levels_len, const uint8_t *table, size_t table_len,
+                    const uint8_t *requests, size_t requests_len, uint8_t *replies, size_t replies_len, size_t most);
 
 static const struct {
     const char *name;
@@ -175,9 +229,10 @@ static void try_map(size_t room) {
     memset(replies, GUARD, sizeof replies);
     for (size_t p = 0; p < PARTS; p++) lay_out(&map_parts[p], requests[p], expected[p]);
     size_t before = map_parts[0].steps, items = map_parts[1].steps, after = map_parts[2].steps;
-    size_t handled = desk_fresh_map(marked_levels, sizeof marked_levels, requests[0], before * REQUEST_BYTES, replies[0],
-                                    before * REPLY_BYTES, 2, 1, map_items, items, replies[1], room, requests[2],
-                                    after * REQUEST_BYTES, replies[2], after * REPLY_BYTES);
+    size_t handled = desk_fresh_map(marked.levels, marked.levels_len, marked.table, marked.table_len, requests[0],
+                                    before * REQUEST_BYTES, replies[0], before * REPLY_BYTES, 2, 1, map_items, items,
+                                    replies[1], room, requests[2], after * REQUEST_BYTES, replies[2],
+                                    after * REPLY_BYTES);
     size_t due[PARTS] = {before, least(items, room / REPLY_BYTES), after};
     for (size_t p = 0; p < PARTS; p++)
         differing += !same(map_parts[p].name, "desk_fresh_map", requests[p], expected[p], replies[p],
@@ -195,6 +250,7 @@ static void try(const struct example *e) {
         printf("%s: wire.h does not write the bytes of document 01\n", e->name);
         differing++;
     }
+    const struct opening *o = e->opening;
     size_t whole = e->steps * REQUEST_BYTES, place = e->steps * REPLY_BYTES;
     // A turn of one request, of a few, and of all; with an unfinished request at the end and more
     // places than replies; with one place too few.
@@ -205,12 +261,13 @@ static void try(const struct example *e) {
         char call[48];
         snprintf(call, sizeof call, "%s of at most %zu", turns[k / 3].name, most);
         memset(replies, GUARD, sizeof replies);
-        size_t answered =
-            serve(e->levels, e->items, requests, whole + REQUEST_BYTES - 1, replies, sizeof replies, most);
+        size_t answered = serve(o->levels, o->levels_len, o->table, o->table_len, requests,
+                                whole + REQUEST_BYTES - 1, replies, sizeof replies, most);
         differing += !same(e->name, call, requests, expected, replies, sizeof replies,
                            least(most, e->steps), answered);
         memset(replies, GUARD, sizeof replies);
-        answered = serve(e->levels, e->items, requests, whole, replies, place - 1, most);
+        answered = serve(o->levels, o->levels_len, o->table, o->table_len, requests, whole, replies,
+                         place - 1, most);
         differing += !same(e->name, call, requests, expected, replies, sizeof replies,
                            least(most, e->steps - 1), answered);
         calls += 2;
@@ -224,6 +281,6 @@ int main(void) {
     // More than all places, and one byte too few for the last.
     try_map(5 * REPLY_BYTES + 9);
     try_map(4 * REPLY_BYTES - 1);
-    printf("openings, the worked day, M1 to M%zu and a map: %zu calls, %zu differ\n", count - 1, calls, differing);
+    printf("openings, the worked day, M1 to M12, two subjects and a map: %zu calls, %zu differ\n", calls, differing);
     return differing == 0 ? 0 : 1;
 }

@@ -9,9 +9,9 @@ int main(int argc, char **argv) {
     size_t len;
     uint8_t *input = read_all(&len);
     if (!input || !desks_start()) return 2;
-    size_t n = len > 0 ? input[0] : 0, header = 1 + n;
-    struct opening o = {input + 1, n};
-    // Levels cut short give 13, as no levels do.
+    size_t n = len > 0 ? input[0] : 0, header = 1 + n + TABLE_BYTES;
+    struct opening o = {input + 1, n, input + 1 + n, TABLE_BYTES};
+    // Levels or a table cut short give 13, as no levels do.
     int refusal = header > len ? ITEM_COUNT : desk->open(&o);
     size_t count = refusal ? 1 : (len - header) / REQUEST_BYTES;
     uint8_t *replies = calloc(count + 1, REPLY_BYTES);

@@ -1,18 +1,20 @@
 // One map by `desk_fresh_map`, for `peer maps`: standard input is a case, standard output what the call left.
 //
-// The case, numbers little-endian, its bytes counted in brackets: the count of levels [1], the levels [1 each]; the map's level [1] and
-// ticket [4]; the count of its items [2], the items [2 each]; the length of the map's reply buffer in bytes [2]; the count of requests
-// before it [2], these requests [12 each]; and all the rest are the requests after it, the last perhaps unfinished.
+// The case, numbers little-endian, its bytes counted in brackets: the count of levels [1], the levels [1 each]; the length of the table
+// [1], its bytes [1 each]; the map's level [1] and ticket [4]; the count of its items [2], the items [2 each]; the length of the map's
+// reply buffer in bytes [2]; the count of requests before it [2], these requests [12 each]; and all the rest are the requests after it,
+// the last perhaps unfinished.
 //
-// The output: the count that the call gave [8], the replies to the requests before [16 each], the whole reply buffer of the map, 16
-// bytes behind it that were not lent, the replies to the whole requests after [16 each]. Every byte was a5 before the call.
+// The output: the number of the opening, by `desk_fresh_open` [1]; the count that the call gave [8], the replies to the requests before
+// [16 each], the whole reply buffer of the map, 16 bytes behind it that were not lent, the replies to the whole requests after [16 each].
+// Every byte was a5 before the call.
 #include "input.h"
 #include "proved.h"
 #include "wire.h"
 
 #include <string.h>
 
-enum { GUARD = 0xa5, GUARDS = 16, COUNT_BYTES = 8 };
+enum { GUARD = 0xa5, GUARDS = 16, NUMBER_BYTES = 1, COUNT_BYTES = 8 };
 
 struct input {
     const uint8_t *at;
@@ -52,6 +54,8 @@ int main(void) {
     struct input in = {bytes, len};
     size_t levels_len = *take(&in, 1, "the count of levels");
     const uint8_t *levels = take(&in, levels_len, "the last level");
+    size_t table_len = *take(&in, 1, "the length of the table");
+    const uint8_t *table = take(&in, table_len, "the end of the table");
     uint8_t level = *take(&in, 1, "the map's level");
     uint32_t ticket = get32(take(&in, 4, "the map's ticket"));
     size_t count = get16(take(&in, 2, "the count of items"));
@@ -62,14 +66,15 @@ int main(void) {
 
     size_t before_room = before_len / REQUEST_BYTES * REPLY_BYTES;
     size_t after_room = in.left / REQUEST_BYTES * REPLY_BYTES;
-    size_t left_len = COUNT_BYTES + before_room + room + GUARDS + after_room;
+    size_t left_len = NUMBER_BYTES + COUNT_BYTES + before_room + room + GUARDS + after_room;
     uint8_t *left = memset(need(left_len), GUARD, left_len);
-    uint8_t *earlier = left + COUNT_BYTES, *replies = earlier + before_room;
+    uint8_t *counted = left + NUMBER_BYTES, *earlier = counted + COUNT_BYTES, *replies = earlier + before_room;
     uint8_t *later = replies + room + GUARDS;
-    uint64_t handled = desk_fresh_map(levels, levels_len, before, before_len, earlier, before_room, level, ticket,
-                                      items, count, replies, room, in.at, in.left, later, after_room);
-    put32(left, (uint32_t)handled);
-    put32(left + 4, (uint32_t)(handled >> 32));
+    *left = desk_fresh_open(levels, levels_len, table, table_len);
+    uint64_t handled = desk_fresh_map(levels, levels_len, table, table_len, before, before_len, earlier, before_room,
+                                      level, ticket, items, count, replies, room, in.at, in.left, later, after_room);
+    put32(counted, (uint32_t)handled);
+    put32(counted + 4, (uint32_t)(handled >> 32));
     bool written = fwrite(left, 1, left_len, stdout) == left_len && fflush(stdout) == 0;
     if (!written) fprintf(stderr, "maps: standard output cannot be written\n");
     free(items);

@@ -8,8 +8,10 @@ enum { NOBODY = -1 };
 int plain_open(struct plain_house *h, const struct opening *o) {
     memset(h, 0, sizeof *h);
     for (int l = 0; l < LEVELS; l++) h->next_ticket[l] = 1;
+    memcpy(h->order, chain, sizeof h->order);   // a refused opening holds the old chain
     int refusal = misopened(o);
     if (refusal) return refusal;
+    memcpy(h->order, o->table, sizeof h->order);
     h->count = o->levels_len;
     for (size_t i = 0; i < h->count; i++) h->items[i].level = o->levels[i];
     return 0;
@@ -50,7 +52,7 @@ static int begin(struct plain_house *h, const struct request *q, struct reply *a
 static int read_item(struct plain_house *h, const struct request *q, int me, struct reply *a) {
     if (q->item >= h->count) return NO_ITEM;
     struct plain_item *item = &h->items[q->item];
-    if (item->level > q->level) return WRONG_LEVEL;
+    if (!dominates(h->order, q->level, item->level)) return WRONG_LEVEL;
     if (plain_is_signalled(h, me)) return SIGNALLED;
     if (h->places[me].standing != ACTIVE) return WRONG_TIME;
     int p = holder(h, q->item, me, CERTIFIES);
@@ -82,21 +84,27 @@ static int write_item(struct plain_house *h, const struct request *q, int me, st
     return DONE;
 }
 
+static void signal_readers(struct plain_house *h, size_t item, int level) {
+    int first = level * PLACES_PER_LEVEL;
+    for (int p = first; p < first + PLACES_PER_LEVEL; p++)
+        if (h->cells[item][p] & READS) h->cells[item][p] |= IS_SIGNALLED;
+}
+
 static int certify(struct plain_house *h, const struct request *q, int me, struct reply *a) {
     if (plain_is_signalled(h, me)) return SIGNALLED;
     if (h->places[me].standing != ACTIVE) return WRONG_TIME;
-    int first = q->level * PLACES_PER_LEVEL, above = first + PLACES_PER_LEVEL;
+    int first = q->level * PLACES_PER_LEVEL;
     // The first that is met is on the lowest item, and there at the lowest place.
     for (size_t i = 0; i < h->count; i++) {
         if (!(h->cells[i][me] & WRITES)) continue;
-        for (int p = first; p < above; p++)
+        for (int p = first; p < first + PLACES_PER_LEVEL; p++)
             if (p != me && (h->cells[i][p] & READS)) return delayed_by(a, h->places[p].ticket, p);
     }
     for (size_t i = 0; i < h->count; i++) {
         if (!(h->cells[i][me] & WRITES)) continue;
         h->cells[i][me] ^= WRITES | CERTIFIES;
-        for (int p = above; p < PLACES; p++)
-            if (h->cells[i][p] & READS) h->cells[i][p] |= IS_SIGNALLED;
+        for (int l = 0; l < LEVELS; l++)
+            if (l != q->level && dominates(h->order, l, q->level)) signal_readers(h, i, l);
     }
     h->places[me].standing = CERTIFIED;
     return DONE;

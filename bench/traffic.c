@@ -8,7 +8,8 @@ _Static_assert(ITEMS % 4 == 0 && ITEMS > 0 && ITEMS <= 64, "items of the traffic
 #define FOUR 0, 1, 2, 3
 #define SIXTEEN FOUR, FOUR, FOUR, FOUR
 static const uint8_t levels[MOST_ITEMS] = {SIXTEEN, SIXTEEN, SIXTEEN, SIXTEEN};
-const struct opening traffic_opening = {levels, TRAFFIC_ITEMS}, full_opening = {levels, MOST_ITEMS};
+const struct opening traffic_opening = {levels, TRAFFIC_ITEMS, chain, sizeof chain},
+                     full_opening = {levels, MOST_ITEMS, chain, sizeof chain};
 
 // Of a thousand requests.
 struct recipe {

@@ -11,6 +11,13 @@ int tuned_open(struct tuned_house *h, const struct opening *o) {
     memset(h, 0, sizeof *h);
     for (int l = 0; l < LEVELS; l++) h->next_ticket[l] = 1;
     int refusal = misopened(o);
+    const uint8_t *table = refusal ? chain : o->table;   // a refused opening holds the old chain
+    for (int l = 0; l < LEVELS; l++) {
+        for (int m = 0; m < LEVELS; m++) {
+            h->below[l] |= (uint8_t)(dominates(table, l, m) << m);
+            h->above[l] |= (uint8_t)((l != m && dominates(table, m, l)) << m);
+        }
+    }
     if (refusal) return refusal;
     h->count = o->levels_len;
     memcpy(h->level, o->levels, o->levels_len);
@@ -65,7 +72,7 @@ static inline int read_item(struct tuned_house *h, const struct request *q, int 
                             struct reply *a) {
     size_t i = q->item;
     if (i >= h->count) return NO_ITEM;
-    if (h->level[i] > q->level) return WRONG_LEVEL;
+    if (!(h->below[q->level] >> h->level[i] & 1)) return WRONG_LEVEL;
     if (is_signalled(h, me)) return SIGNALLED;
     if (h->certified[me]) return WRONG_TIME;
     if (held_by_others(h, i, me) & CERTIFIES) return delayed(h, i, me, CERTIFIES, a);
@@ -99,8 +106,8 @@ static inline int certify(struct tuned_house *h, const struct request *q, int me
     uint8_t written[MOST_ITEMS], read[MOST_ITEMS] = {0}, hit = 0;
     // READS where this transaction writes: the mark of a reader in the way, or to be signalled.
     for (int i = 0; i < MOST_ITEMS; i++) written[i] = (h->cells[me][i] & WRITES) / WRITES * READS;
-    int first = q->level * PLACES_PER_LEVEL, above = first + PLACES_PER_LEVEL;
-    for (int p = first; p < above; p++) {
+    int first = q->level * PLACES_PER_LEVEL;
+    for (int p = first; p < first + PLACES_PER_LEVEL; p++) {
         uint8_t other = p == me ? 0 : READS;
         for (int i = 0; i < MOST_ITEMS; i++) read[i] |= h->cells[p][i] & other;
     }
@@ -110,9 +117,12 @@ static inline int certify(struct tuned_house *h, const struct request *q, int me
         while (!(read[lowest] & written[lowest])) lowest++;
         return delayed(h, lowest, me, READS, a);
     }
-    for (int p = above; p < PLACES; p++)
-        for (int i = 0; i < MOST_ITEMS; i++)
-            h->cells[p][i] |= (h->cells[p][i] & written[i]) * IS_SIGNALLED;
+    for (int l = 0; l < LEVELS; l++) {
+        if (!(h->above[q->level] >> l & 1)) continue;
+        for (int p = l * PLACES_PER_LEVEL; p < (l + 1) * PLACES_PER_LEVEL; p++)
+            for (int i = 0; i < MOST_ITEMS; i++)
+                h->cells[p][i] |= (h->cells[p][i] & written[i]) * IS_SIGNALLED;
+    }
     for (int i = 0; i < MOST_ITEMS; i++) h->cells[me][i] ^= written[i] * (WRITES | CERTIFIES);
     h->certified[me] = 1;
     return DONE;

@@ -11,6 +11,7 @@ struct tuned_house {
     uint32_t ticket[PLACES];   // 0 when the place is free: ticket 0 names nobody
     uint8_t certified[PLACES];
     uint32_t next_ticket[LEVELS];
+    uint8_t below[LEVELS], above[LEVELS];   // of each level a set of levels: those it dominates; those above it
     uint8_t cells[PLACES][MOST_ITEMS];
 };
 

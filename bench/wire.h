@@ -7,7 +7,7 @@
 #include <stdint.h>
 
 enum { LEVELS = 4, PLACES_PER_LEVEL = 8, PLACES = LEVELS * PLACES_PER_LEVEL, MOST_ITEMS = 64 };
-enum { REQUEST_BYTES = 12, REPLY_BYTES = 16 };
+enum { REQUEST_BYTES = 12, REPLY_BYTES = 16, TABLE_BYTES = LEVELS * LEVELS };
 enum operation { BEGIN, READ, WRITE, CERTIFY, COMMIT, ABORT, ASK, OPERATIONS };
 
 enum number {
@@ -27,6 +27,7 @@ enum number {
     ITEM_COUNT = 13,
     LEVEL_BYTE = 14,
     BLANK_SHEET = 15,
+    NO_ORDER = 16,
     NUMBERS
 };
 
@@ -108,18 +109,44 @@ static inline int misshapen(const struct request *q) {
     return 0;
 }
 
-// What a house is opened with.
+// What a house is opened with: the level of each item, and which level dominates which (CR 6).
 struct opening {
     const uint8_t *levels;
     size_t levels_len;
+    const uint8_t *table;
+    size_t table_len;
 };
+
+// Document 01's order, where a larger level dominates a smaller one.
+static const uint8_t chain[TABLE_BYTES] = {1, 1, 1, 1, 0, 1, 1, 1, 0, 0, 1, 1, 0, 0, 0, 1};
+
+// Row by row: 1 says that the column's level dominates the row's.
+static inline bool dominates(const uint8_t *table, int level, int other) {
+    return table[other * LEVELS + level];
+}
+
+static inline bool is_order(const uint8_t *table) {
+    for (int k = 0; k < TABLE_BYTES; k++)
+        if (table[k] > 1) return false;
+    for (int a = 0; a < LEVELS; a++) {
+        if (!dominates(table, a, a)) return false;
+        for (int b = 0; b < LEVELS; b++) {
+            if (!dominates(table, a, b)) continue;
+            if (a != b && dominates(table, b, a)) return false;
+            for (int c = 0; c < LEVELS; c++)
+                if (dominates(table, b, c) && !dominates(table, a, c)) return false;
+        }
+    }
+    return true;
+}
 
 // 0, or the number of a refused opening.
 static inline int misopened(const struct opening *o) {
     if (o->levels_len == 0 || o->levels_len > MOST_ITEMS) return ITEM_COUNT;
+    if (o->table_len != TABLE_BYTES) return ITEM_COUNT;
     for (size_t i = 0; i < o->levels_len; i++)
         if (o->levels[i] >= LEVELS) return LEVEL_BYTE;
-    return 0;
+    return is_order(o->table) ? 0 : NO_ORDER;
 }
 
 // How many requests a turn answers: the least of three numbers.

@@ -1,11 +1,11 @@
-//! Two answers side by side, for people to see: to an input, and to the same with all requests
-//! above a level struck (CR 3).
+//! Two answers side by side, for people to see: to an input, and to the same with all requests struck
+//! that a level does not dominate (CR 3).
 
 use crate::bytes::input_of;
 use crate::compare::{answer_of, refused_opening};
+use crate::run::opened;
 use crate::stop::Stop;
 use crate::strike::{Struck, STRUCK, WHOLE};
-use crate::talk::list;
 use crate::wire::{hex, replies_in, requests_in, split_header, Reply};
 use crate::words;
 use std::io::Write;
@@ -13,7 +13,7 @@ use std::io::Write;
 /// Pupils draw while a teacher marks, twice. The same day is worked out by proof, byte by byte, in
 /// crates/quiet_day/specs/Day.antt.
 const DAY: &str = "\
-open 0 0 2
+open 0 0 2 order 0<1 0<2 1<3 2<3
 begin 0
 begin 0
 begin 2
@@ -96,10 +96,10 @@ pub fn beside(
     let struck = Struck::of(input, k);
     let left = answer_of(command, WHOLE, input)?;
     let right = answer_of(command, STRUCK, &struck.input)?;
-    if struck.is_opened {
-        writeln!(out, "in a house with {}", list(&split_header(input).0[1..]))?;
+    if let Some(house) = opened(split_header(input).0) {
+        writeln!(out, "in {}", words::house(&house))?;
     }
-    let without = format!("the {STRUCK}: without levels above {k}");
+    let without = format!("the {STRUCK}: without what level {k} does not dominate");
     columns("", &format!("the {WHOLE}"), &without, out)?;
     let rows = rows(input, &struck, &left, &right);
     for (row, number) in rows.iter().zip(1..) {

@@ -1,7 +1,7 @@
 //! Words to bytes: the lines of a talk as the input of a desk.
 
 use crate::talk::{parse_line, Line, OPEN_FIRST};
-use crate::wire::{header, Request};
+use crate::wire::Request;
 
 /// The input that one line which opens a house makes, and the requests in the lines behind it.
 pub fn input_of(lines: &str) -> Result<Vec<u8>, String> {
@@ -18,7 +18,7 @@ pub fn input_of(lines: &str) -> Result<Vec<u8>, String> {
 
 fn bytes_of(line: &str, is_first: bool) -> Result<Vec<u8>, String> {
     match (parse_line(line)?, is_first) {
-        (Line::Open(levels), true) => Ok(header(&levels)),
+        (Line::Open(opening), true) => Ok(opening.header()),
         (Line::Ask(requests), false) => {
             Ok(requests.into_iter().flat_map(Request::to_bytes).collect())
         }

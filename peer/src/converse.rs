@@ -3,10 +3,14 @@
 
 use crate::desk::{Desk, Refusal};
 use crate::generator::{header_of, Generator};
+use crate::order::{Order, TABLE_BYTES};
 use crate::program::Program;
+use crate::run::opened;
 use crate::stop::Stop;
 use crate::talk::{DAY_INPUT, DAY_OUTPUT};
-use crate::wire::{hex, requests_in, Operation, Reply, Request, REPLY_BYTES, REQUEST_BYTES};
+use crate::wire::{
+    header, hex, requests_in, split_header, Operation, Reply, Request, REPLY_BYTES, REQUEST_BYTES,
+};
 use crate::words;
 use std::io::Write;
 use std::time::Duration;
@@ -37,9 +41,7 @@ struct Client {
 impl Client {
     /// Opens the house, with the header in pieces of this many bytes.
     fn open(command: &str, header: &[u8], piece: usize) -> Result<Client, Stop> {
-        let levels = header.get(1..).unwrap_or_default();
-        let desk = Desk::open(levels)
-            .map_err(|refusal| Stop::Cannot(format!("a house refused with {refusal:?}")))?;
+        let desk = opened(header).ok_or_else(|| Stop::Cannot("no house opens".to_string()))?;
         let mut client = Client { program: Program::start(command)?, desk, asked: 0 };
         client.send_in_pieces(header, piece)?;
         client.check_quiet("a header alone")?;
@@ -103,7 +105,7 @@ impl Client {
 }
 
 fn worked_day(command: &str) -> Result<u64, Stop> {
-    let (header, requests) = DAY_INPUT.split_at(2);
+    let (header, requests) = split_header(&DAY_INPUT);
     let mut client = Client::open(command, header, header.len())?;
     let mut replies = DAY_OUTPUT.chunks(REPLY_BYTES);
     for request in requests_in(requests) {
@@ -157,7 +159,7 @@ const INTERLEAVED: [(&str, u8); 24] = [
 ];
 
 fn interleaved(command: &str) -> Result<u64, Stop> {
-    let mut client = Client::open(command, &[3, 0, 0, 2], 4)?;
+    let mut client = Client::open(command, &header(&[0, 0, 2], &Order::CHAIN.table()), 4)?;
     for (line, number) in INTERLEAVED {
         let request = words::parse_request(line).map_err(Stop::Cannot)?;
         let reply = client.ask(&request)?;
@@ -204,11 +206,11 @@ fn in_bursts(command: &str) -> Result<u64, Stop> {
 
 /// The one reply comes while the input is still open, and then the program stops.
 fn refused_openings(command: &str) -> Result<u64, Stop> {
-    let too_many = [&[65][..], &[0; 65]].concat();
-    let cases: [(&[u8], Refusal); 3] = [
+    let cases: [(&[u8], Refusal); 4] = [
         (&[0], Refusal::ItemCount),
-        (&too_many, Refusal::ItemCount),
-        (&[3, 0, 4, 1], Refusal::LevelByte),
+        (&[65], Refusal::ItemCount),
+        (&header(&[0, 4, 1], &[2; TABLE_BYTES]), Refusal::LevelByte),
+        (&header(&[0, 3, 1], &[1; TABLE_BYTES]), Refusal::NoOrder),
     ];
     for (header, refusal) in cases {
         let mut program = Program::start(command)?;
@@ -234,14 +236,15 @@ fn expect_refusal(program: &mut Program, header: &[u8], refusal: Refusal) -> Res
 }
 
 fn cut_short(command: &str) -> Result<u64, Stop> {
-    for header in [&[][..], &[1], &[3, 0, 9]] {
+    let whole = header(&[0, 9], &[2; TABLE_BYTES]);
+    for header in [&[][..], &[1], &[3, 0, 9], &whole[..3], &whole[..whole.len() - 1]] {
         let mut program = Program::start(command)?;
         program.send(header).map_err(Stop::Found)?;
         program.close_input();
         expect_refusal(&mut program, header, Refusal::ItemCount)?;
         program.check_silent_end().map_err(Stop::Found)?;
     }
-    let mut client = Client::open(command, &[1, 0], 2)?;
+    let mut client = Client::open(command, &header(&[0], &Order::DIAMOND.table()), 2)?;
     let begin = Request { operation: Operation::Begin.number(), ..Request::default() };
     client.ask(&begin)?;
     client.program.send(&begin.to_bytes()[..11]).map_err(Stop::Found)?;

@@ -1,14 +1,18 @@
 //! Which replies the generated inputs meet: all that the rules let a run reach must be there.
 
 mod delays;
+mod openings;
+mod orders;
 
 use crate::desk::{Desk, Place, Refusal, Standing, PLACES_PER_LEVEL};
 use crate::generator;
 use crate::progress::each_seed;
-use crate::run::{Run, BY_THE_RULES};
+use crate::run::{opened, output_for, BY_THE_RULES};
 use crate::stop::Stop;
-use crate::wire::{split_header, Operation, Reply, Request, REPLY_BYTES, REQUEST_BYTES};
+use crate::wire::{split_header, Operation, Reply, Request, REQUEST_BYTES};
 use delays::{Delay, Delays};
+use openings::Openings;
+use orders::{Moment, Orders};
 use std::io::{self, Write};
 
 /// Rows: the operations, then all numbers above 6 together.
@@ -66,41 +70,33 @@ struct Counts {
     /// and before the others.
     blank: [u64; NUMBERS.len()],
     delays: Delays,
-    opened: u64,
-    refused_13: u64,
-    refused_14: u64,
+    openings: Openings,
+    orders: Orders,
     /// Replies that no reading of the rules allows.
     strange: u64,
 }
 
 impl Counts {
     fn note_input(&mut self, input: &[u8]) {
-        let mut run = Run::new(BY_THE_RULES);
         let (header, mut requests) = split_header(input);
-        let mut refusal = run.feed(header);
-        if run.desk().is_some() {
-            self.opened += 1;
-        } else {
-            refusal.extend(run.end());
-            match refusal.first() {
-                Some(13) => self.refused_13 += 1,
-                Some(14) => self.refused_14 += 1,
-                _ => self.strange += 1,
-            }
+        let Some(mut desk) = opened(header) else {
+            self.openings.note_refused(header, &output_for(header, BY_THE_RULES));
             return;
-        }
+        };
+        self.openings.note_opened(desk.order);
         while let Some((bytes, rest)) = requests.split_first_chunk::<REQUEST_BYTES>() {
             let request = Request::from_bytes(bytes);
-            self.note_named(run.desk(), &request);
-            self.note_blank(run.desk(), &request);
-            let reply = run.feed(bytes);
-            self.note_reply(run.desk(), &request, &reply);
+            self.note_named(&desk, &request);
+            self.note_blank(&desk, &request);
+            let before = desk.clone();
+            let reply = desk.answer(&request);
+            self.orders.note(&Moment { before: &before, after: &desk, request: &request, reply });
+            self.note_reply(&desk, &request, &reply);
             requests = rest;
         }
     }
 
-    fn note_named(&mut self, desk: Option<&Desk>, request: &Request) {
-        let Some(desk) = desk else { return };
+    fn note_named(&mut self, desk: &Desk, request: &Request) {
         if let Ok(place) = desk.find(request.level, request.ticket) {
             let row = usize::from(request.operation).min(ROWS - 1);
             self.standings[row][standing(&desk.places[place])] += 1;
@@ -109,8 +105,10 @@ impl Counts {
         }
     }
 
-    fn note_blank(&mut self, desk: Option<&Desk>, request: &Request) {
-        let Some(desk) = desk.filter(|_| request.is_blank_write()) else { return };
+    fn note_blank(&mut self, desk: &Desk, request: &Request) {
+        if !request.is_blank_write() {
+            return;
+        }
         let otherwise = desk.clone().answer(&request.with_sheet());
         match column(otherwise.number) {
             Some(column) => self.blank[column] += 1,
@@ -118,13 +116,9 @@ impl Counts {
         }
     }
 
-    fn note_reply(&mut self, desk: Option<&Desk>, request: &Request, bytes: &[u8]) {
-        let Some(reply) = bytes.first_chunk::<REPLY_BYTES>().map(Reply::from_bytes) else {
-            self.strange += 1;
-            return;
-        };
+    fn note_reply(&mut self, desk: &Desk, request: &Request, reply: &Reply) {
         if reply.number == Refusal::Delayed.number() {
-            match desk.and_then(|desk| Delay::of(desk, request, &reply)) {
+            match Delay::of(desk, request, reply) {
                 Some(delay) => self.delays.note(&delay),
                 None => self.strange += 1,
             }
@@ -161,14 +155,8 @@ impl Counts {
             faults.push(format!("no search from the ticket modulo 8 had to pass {passed} places"));
         }
         faults.extend(self.delays.faults());
-        let openings = [
-            ("opened", self.opened),
-            ("refused 13", self.refused_13),
-            ("refused 14", self.refused_14),
-        ];
-        for (name, _) in openings.iter().filter(|(_, count)| *count == 0) {
-            faults.push(format!("no house was {name}"));
-        }
+        faults.extend(self.orders.faults());
+        faults.extend(self.openings.faults());
         if self.strange > 0 {
             faults.push(format!("{} replies are such as nobody may give", self.strange));
         }
@@ -184,11 +172,7 @@ impl Counts {
     }
 
     fn print(&self, out: &mut impl Write) -> io::Result<()> {
-        writeln!(
-            out,
-            "openings: {} opened, {} refused 13, {} refused 14",
-            self.opened, self.refused_13, self.refused_14
-        )?;
+        self.openings.print(out)?;
         writeln!(
             out,
             "\nreplies by operation and number (. cannot be, far: out of reach in a run)"
@@ -216,6 +200,7 @@ impl Counts {
             self.passed.map(|count| count.to_string()).join("; ")
         )?;
         self.delays.print(out)?;
+        self.orders.print(out)?;
         writeln!(out, "\nrequests by operation and standing of the transaction named")?;
         for operation in Operation::ALL.into_iter().filter(|operation| operation.uses_ticket()) {
             let counts = self.standings[usize::from(operation.number())];
@@ -267,6 +252,27 @@ fn check_faults(faults: &[String]) -> Result<(), Stop> {
     Err(Stop::Found(faults.join("\n")))
 }
 
+/// How often each of the named things was met, a line each.
+pub fn print_met<T>(
+    out: &mut impl Write,
+    before: &str,
+    meets: &[(&str, T)],
+    counts: &[u64],
+) -> io::Result<()> {
+    for ((name, _), count) in meets.iter().zip(counts) {
+        writeln!(out, "{before}{name}: {count}")?;
+    }
+    Ok(())
+}
+
+/// Those of the named things that were never met.
+pub fn unmet<'a, T>(
+    meets: &'a [(&'a str, T)],
+    counts: &'a [u64],
+) -> impl Iterator<Item = &'a str> + 'a {
+    meets.iter().zip(counts).filter(|(_, count)| **count == 0).map(|((name, _), _)| *name)
+}
+
 /// Notices a comparison that tried too little; `faults` says what its inputs did not meet.
 pub fn check_met(inputs: u64, faults: &[String]) -> Result<(), Stop> {
     if inputs < ENOUGH {
@@ -281,11 +287,22 @@ mod tests {
 
     #[test]
     fn enough_inputs_meet_everything() {
-        assert!(cover(150, 300, &mut io::sink()).is_ok());
+        assert!(cover(300, 200, &mut io::sink()).is_ok());
     }
 
     #[test]
     fn too_few_inputs_are_noticed() {
-        assert!(matches!(cover(1, 3, &mut io::sink()), Err(Stop::Found(_))));
+        let Err(Stop::Found(faults)) = cover(3, 20, &mut io::sink()) else {
+            panic!("three inputs are enough");
+        };
+        let wanted = [
+            "begin was never answered 11",
+            "no house was opened with the order 0<1 0<2 1<3 2<3",
+            "no opening was refused 16: three levels that are not transitive alone",
+            "never met: a done certify that signals level 0 above level 3",
+        ];
+        for words in wanted {
+            assert!(faults.contains(words), "{words}: {faults}");
+        }
     }
 }

@@ -1,6 +1,7 @@
 //! The desk: the house of document 01 and its rules, with the change requests that have landed
-//! (CR 1, CR 5), written as plainly as they stand there.
+//! (CR 1, CR 5, CR 6), written as plainly as they stand there.
 
+use crate::order::{Order, Table};
 use crate::wire::{Operation, Reply, Request};
 use std::collections::BTreeMap;
 
@@ -29,6 +30,7 @@ pub enum Refusal {
     ItemCount = 13,
     LevelByte = 14,
     BlankSheet = 15,
+    NoOrder = 16,
 }
 
 impl Refusal {
@@ -111,23 +113,37 @@ pub struct Desk {
     /// Eight places for each level, level 0 first.
     pub places: Vec<Place>,
     pub next_ticket: [Option<u32>; LEVELS as usize],
+    pub order: Order,
 }
 
 impl Desk {
-    pub fn open(levels: &[u8]) -> Result<Desk, Refusal> {
+    /// A table that is not 16 bytes long gives 13, as a wrong count of items does.
+    pub fn open(levels: &[u8], table: &[u8]) -> Result<Desk, Refusal> {
+        let table = Table::try_from(table).map_err(|_| Refusal::ItemCount)?;
         if levels.is_empty() || levels.len() > MOST_ITEMS {
             return Err(Refusal::ItemCount);
         }
         if levels.iter().any(|&level| level >= LEVELS) {
             return Err(Refusal::LevelByte);
         }
+        let order = Order::of(&table).ok_or(Refusal::NoOrder)?;
+        Ok(Desk::fresh(levels, order))
+    }
+
+    /// What a refused opening yields: no items, and the old chain.
+    pub fn refused() -> Desk {
+        Desk::fresh(&[], Order::CHAIN)
+    }
+
+    fn fresh(levels: &[u8], order: Order) -> Desk {
         let fresh = |&level: &u8| Item { level, value: 0, version: 0, pending: 0 };
         let places_of = |level| vec![Place::free(level); PLACES_PER_LEVEL];
-        Ok(Desk {
+        Desk {
             items: levels.iter().map(fresh).collect(),
             places: (0..LEVELS).flat_map(places_of).collect(),
             next_ticket: [Some(1); LEVELS as usize],
-        })
+            order,
+        }
     }
 
     /// One request, one reply. Any reply but done leaves the house as it was.
@@ -180,7 +196,7 @@ impl Desk {
         let me = self.find(request.level, request.ticket)?;
         let number = usize::from(request.item);
         let item = self.items.get(number).ok_or(Refusal::NoItem)?;
-        if item.level > request.level {
+        if !self.order.dominates(request.level, item.level) {
             return Err(Refusal::WrongLevel);
         }
         self.check_unsignalled(me)?;
@@ -232,7 +248,8 @@ impl Desk {
             let cell = self.places[me].cell_mut(item);
             cell.write = false;
             cell.certify = true;
-            for above in self.places.iter_mut().filter(|place| place.level > request.level) {
+            let is_above = |place: &&mut Place| self.order.is_above(place.level, request.level);
+            for above in self.places.iter_mut().filter(is_above) {
                 if above.cell(item).read {
                     above.cell_mut(item).signalled = true;
                 }

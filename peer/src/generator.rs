@@ -1,9 +1,14 @@
 //! Makes inputs. It keeps a desk of its own while it writes, so that most requests mean something
 //! in the house as it stands: contended items, signals, full levels, old tickets.
 
+mod openings;
+
 use crate::desk::{Desk, Item, Place, Standing, LEVELS, MOST_ITEMS};
+use crate::order::{levels, Order};
 use crate::rng::Rng;
 use crate::wire::{header, Operation, Request, REQUEST_BYTES};
+pub use openings::spoil;
+use openings::{any_order, order_of};
 
 /// What most requests of a stretch are about.
 struct Mood {
@@ -61,7 +66,8 @@ impl Generator {
     /// A generator with a house that is opened, whatever the seed.
     pub fn new(seed: u64) -> Generator {
         let mut rng = Rng::new(seed);
-        let desk = proper_house(&mut rng);
+        let order = order_of(seed, &mut rng);
+        let desk = proper_house(&mut rng, order);
         Generator::with_house(rng, desk)
     }
 
@@ -108,10 +114,11 @@ impl Generator {
 
     /// A level that has items, or one above it that may read them.
     fn level_with_items(&mut self) -> u8 {
-        let item = self.rng.below(self.desk.items.len());
-        let level = self.desk.items[item].level;
-        let above = if self.rng.one_in(2) { self.rng.below((LEVELS - level).into()) } else { 0 };
-        level + above as u8
+        let Desk { items, order, .. } = &self.desk;
+        let level = items[self.rng.below(items.len())].level;
+        let above: Vec<u8> = levels().filter(|&above| order.is_above(above, level)).collect();
+        let above = self.rng.pick(&above).unwrap_or(level);
+        self.rng.pick(&[level, above]).unwrap_or(level)
     }
 
     /// Keeps the desk up with the request, and remembers tickets that end with it.
@@ -192,14 +199,16 @@ impl Generator {
     fn item_for(&mut self, operation: Operation, level: u8) -> u16 {
         let may_use = |item: &Item| match operation {
             Operation::Write => item.level == level,
-            _ => item.level <= level,
+            _ => self.desk.order.dominates(level, item.level),
         };
         let items = (0..).zip(&self.desk.items);
         let usable: Vec<u16> = items.filter(|(_, item)| may_use(item)).map(|(n, _)| n).collect();
-        let level_of = |item: &u16| self.desk.items[usize::from(*item)].level;
+        let is_below = |item: &&u16| {
+            self.desk.order.is_above(level, self.desk.items[usize::from(**item)].level)
+        };
         let preferred: Vec<u16> = match self.rng.below(16) {
             // Reads below are where signals come from.
-            0..=5 => usable.iter().filter(|item| level_of(item) < level).copied().collect(),
+            0..=5 => usable.iter().filter(is_below).copied().collect(),
             // Items that somebody is changing.
             6..=10 => usable.iter().filter(|item| self.is_changing(**item)).copied().collect(),
             // Items that may be forbidden.
@@ -289,50 +298,27 @@ fn proper_levels(rng: &mut Rng) -> Vec<u8> {
     (0..count).map(|_| (lowest + rng.below(span)) as u8).collect()
 }
 
-fn proper_house(rng: &mut Rng) -> Desk {
+fn proper_house(rng: &mut Rng, order: Order) -> Desk {
     loop {
-        if let Ok(desk) = Desk::open(&proper_levels(rng)) {
+        if let Ok(desk) = Desk::open(&proper_levels(rng), &order.table()) {
             return desk;
         }
     }
 }
 
-/// The bytes that open a house with the items of this one.
+/// The bytes that open a house with the items and the order of this one.
 pub fn header_of(desk: &Desk) -> Vec<u8> {
-    header(&desk.levels())
-}
-
-/// One header in eight is spoiled: no items, too many, a byte above 3, or cut short.
-/// Says whether the input ends with it.
-fn spoil_header(rng: &mut Rng, header: &mut Vec<u8>) -> bool {
-    let kind = rng.below(40);
-    match kind {
-        0 => header[0] = 0,
-        1 => {
-            header[0] = at_or_above(rng, MOST_ITEMS as u8 + 1);
-            header.resize_with(1 + usize::from(header[0]), || rng.below(LEVELS.into()) as u8);
-        }
-        2 | 3 => {
-            let spot = 1 + rng.below(header.len() - 1);
-            header[spot] = at_or_above(rng, LEVELS);
-        }
-        _ => {}
-    }
-    // Levels cut short are refused as such, also where a byte above 3 stands among them.
-    let is_cut = kind == 3 || kind == 4;
-    if is_cut {
-        header.truncate(rng.below(header.len()));
-    }
-    is_cut
+    header(&desk.levels(), &desk.order.table())
 }
 
 /// The whole input of a seed: a header and `requests` requests, sometimes with an unfinished one
 /// at the end. Requests follow a refused opening too, to see that nobody answers them.
 pub fn input(seed: u64, requests: usize) -> Vec<u8> {
     let mut rng = Rng::new(seed);
-    let desk = proper_house(&mut rng);
+    let order = order_of(seed, &mut rng);
+    let desk = proper_house(&mut rng, order);
     let mut bytes = header_of(&desk);
-    if spoil_header(&mut rng, &mut bytes) {
+    if spoil(seed, &mut rng, &mut bytes) {
         return bytes;
     }
     let unfinished = if rng.one_in(4) { 1 + rng.below(REQUEST_BYTES - 1) } else { 0 };
@@ -348,21 +334,20 @@ pub fn input(seed: u64, requests: usize) -> Vec<u8> {
 pub const LONGEST_RANDOM: usize = 4096;
 
 /// A random byte string. Even seeds step through all lengths from 0 up, odd ones take any length.
-/// A third are any bytes; a third are small bytes, which make openings and operations likely;
-/// a third open a house and go on with any bytes.
+/// A quarter are any bytes; a quarter are small bytes, which make openings and operations likely;
+/// the others open a house and go on with either.
 pub fn random_bytes(seed: u64) -> Vec<u8> {
     let mut rng = Rng::new(!seed);
     let lengths = LONGEST_RANDOM + 1;
     let length = if seed & 1 == 0 { (seed / 2) as usize % lengths } else { rng.below(lengths) };
-    let mut bytes: Vec<u8> = match rng.below(3) {
-        0 => (0..length).map(|_| rng.byte()).collect(),
-        1 => (0..length).map(|_| rng.below(4) as u8 * rng.below(3) as u8).collect(),
-        _ => {
-            let header = header_of(&proper_house(&mut rng));
-            header.into_iter().chain((0..length).map(|_| rng.byte())).collect()
-        }
-    };
-    bytes.truncate(length);
+    let mut bytes = Vec::new();
+    if rng.one_in(2) {
+        let order = any_order(&mut rng);
+        bytes = header_of(&proper_house(&mut rng, order));
+    }
+    let is_small = rng.one_in(2);
+    let small = |rng: &mut Rng| rng.below(4) as u8 * rng.below(3) as u8;
+    bytes.resize_with(length, || if is_small { small(&mut rng) } else { rng.byte() });
     bytes
 }
 
@@ -378,7 +363,7 @@ mod tests {
         }
         assert_ne!(input(1, 100), input(2, 100));
         // Written down once, so that a changed generator is noticed.
-        assert_eq!(fingerprint(&input(7, 500)), 2023665240930051568);
+        assert_eq!(fingerprint(&input(17, 500)), 671922192592430017);
     }
 
     fn fingerprint(bytes: &[u8]) -> u64 {
@@ -391,17 +376,5 @@ mod tests {
             assert_eq!(random_bytes(2 * length as u64).len(), length);
             assert!(random_bytes(2 * length as u64 + 1).len() <= LONGEST_RANDOM);
         }
-    }
-
-    #[test]
-    fn openings_of_all_kinds_are_made() {
-        let inputs: Vec<Vec<u8>> = (0..400).map(|seed| input(seed, 1)).collect();
-        let starts_with = |wanted: fn(u8) -> bool| {
-            inputs.iter().filter(|bytes| bytes.first().is_some_and(|&count| wanted(count))).count()
-        };
-        assert!(starts_with(|count| count == 0) > 0);
-        assert!(starts_with(|count| count > 64) > 0);
-        assert!(starts_with(|count| count == 64) > 0);
-        assert!(inputs.iter().any(|bytes| bytes.is_empty()));
     }
 }

@@ -176,7 +176,7 @@ mod tests {
 
 ```talk
 > open 0
-  opening  01 00                                            a house with 1 item, at level 0
+  opening  01 00 01 01 01 01 00 01 01 01 00 00 01 01 00 00 00 01  a house with 1 item, at level 0; the old chain 0<1<2<3
 > begin 0
   request  00 00 00 00 00 00 00 00 00 00 00 00              begin at level 0
   reply    00 00 00 00 01 00 00 00 00 00 00 00 00 00 00 00  done: ticket #1

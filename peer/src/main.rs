@@ -10,6 +10,7 @@ mod desk;
 mod generator;
 mod guide;
 mod maps;
+mod order;
 mod program;
 mod progress;
 mod quiet;
@@ -52,14 +53,16 @@ usage: peer COMMAND
   map --slip K                   the same with slip K of maps (1, 2 ..) made on purpose
   quiet PROGRAM SEEDS N [--from S]
                                  run PROGRAM on that many inputs of gen, and on each with all
-                                 requests above a level struck, for every level; the replies
-                                 to those that stay must be the same bytes
+                                 requests struck that a level does not dominate, for every
+                                 level; the replies to those that stay must be the same bytes
   beside K [PROGRAM]             show the replies to the input from standard input, and beside
-                                 them those to it with all requests above level K struck
+                                 them those to it with all requests struck that level K does
+                                 not dominate
   beside --day [PROGRAM]         the same of a day with a teacher marking, at level 0
   converse PROGRAM               hold a dialogue with PROGRAM, one request at a time
   serial SEEDS N                 check demand 3 on random runs of the peer's own desk
-  cover SEEDS N                  count the replies that gen's inputs meet
+  cover SEEDS N                  count the openings and replies that gen's inputs meet; all orders
+                                 of the levels take 300 seeds
   talk [PROGRAM]                 type requests in words, see replies in words
   talk --day [PROGRAM]           play document 01's day at the desk
   bytes                          turn lines in the words of talk, an open and requests, into
@@ -116,7 +119,7 @@ fn dispatch(words: &[&str]) -> Result<(), Stop> {
         }
         ["compare", ref rest @ ..] => compare_here(rest, &mut out),
         ["maps", ref rest @ ..] => maps_here(rest, &mut out),
-        ["map"] => map_here(maps::read_map, &mut out),
+        ["map"] => map_here(maps::BY_THE_RULES, &mut out),
         ["map", "--slip", number] => map_here(numbered(&maps::SLIPS, number)?, &mut out),
         ["converse", program] => converse::converse(program, &mut out),
         ["serial", seeds, requests] => {
@@ -185,8 +188,8 @@ fn maps_here(words: &[&str], out: &mut impl Write) -> Result<(), Stop> {
     }
 }
 
-fn map_here(call: maps::Call, out: &mut impl Write) -> Result<(), Stop> {
-    Ok(out.write_all(&maps::answer(&standard_input()?, call)?)?)
+fn map_here(conduct: maps::Conduct, out: &mut impl Write) -> Result<(), Stop> {
+    Ok(out.write_all(&maps::answer(&standard_input()?, conduct)?)?)
 }
 
 fn quiet_here(words: &[&str], out: &mut impl Write) -> Result<(), Stop> {
@@ -200,7 +203,7 @@ fn quiet_here(words: &[&str], out: &mut impl Write) -> Result<(), Stop> {
 }
 
 fn beside_here(level: &str, program: Option<&str>, out: &mut impl Write) -> Result<(), Stop> {
-    let level = words::number(Some(level), "a level", u8::MAX.into()).map_err(Stop::Cannot)?;
+    let level = words::number(Some(level), "a level", 3).map_err(Stop::Cannot)?;
     beside::beside(level as u8, &standard_input()?, program, out)
 }
 

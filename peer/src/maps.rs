@@ -8,18 +8,29 @@ mod slips;
 pub use case::{Case, Map};
 pub use slips::SLIPS;
 
-use crate::compare::{compare_one, explain_replies, first_difference, reply_at};
-use crate::cover::{self, check_met};
+use crate::compare::{compare_one, explain_in, first_difference, reply_at};
+use crate::cover::{self, check_met, print_met, unmet};
 use crate::desk::{Desk, Refusal};
 use crate::progress::each_seed;
 use crate::run::answer_whole;
 use crate::stop::Stop;
 use crate::wire::{hex, Operation, REPLY_BYTES};
-use case::LENGTHS;
+use case::{LENGTHS, TABLE_LENGTHS};
 use std::io::{self, Write};
 
+/// Opens a house of these levels and this table.
+pub type Open = fn(&[u8], &[u8]) -> Result<Desk, Refusal>;
 /// Reads a map into the bytes lent for its replies, and gives the count of items handled.
 pub type Call = fn(&mut Desk, &Map, &mut [u8]) -> usize;
+
+/// How a house is opened and a map read: by the rules, or with one of the deliberate slips.
+#[derive(Clone, Copy)]
+pub struct Conduct {
+    open: Open,
+    call: Call,
+}
+
+pub const BY_THE_RULES: Conduct = Conduct { open: Desk::open, call: read_map };
 
 /// What the reply bytes are before the call, and how many more of them lie behind those lent.
 const GUARD: u8 = 0xa5;
@@ -41,6 +52,8 @@ pub fn read_map(desk: &mut Desk, map: &Map, replies: &mut [u8]) -> usize {
 
 /// What a call left of a case.
 struct Left {
+    /// The number of the opening.
+    number: u8,
     count: usize,
     before: Vec<u8>,
     /// The bytes lent for the map's replies, and those behind them.
@@ -51,20 +64,20 @@ struct Left {
 }
 
 impl Left {
-    fn by(case: &Case, call: Call) -> Result<Left, Refusal> {
-        let mut desk = case.house()?;
+    fn by(case: &Case, conduct: Conduct) -> Left {
+        let (number, mut desk) = case.house(conduct.open);
         let (before, _) = answer_whole(&mut desk, Desk::answer, &case.before);
         let mut untouched = desk.clone();
         let mut replies = vec![GUARD; case.room + GUARDS];
-        let count = call(&mut desk, &case.map, &mut replies[..case.room]);
+        let count = (conduct.call)(&mut desk, &case.map, &mut replies[..case.room]);
         let (after, _) = answer_whole(&mut desk, Desk::answer, &case.after);
         let shows = after != answer_whole(&mut untouched, Desk::answer, &case.after).0;
-        Ok(Left { count, before, replies, after, shows })
+        Left { number, count, before, replies, after, shows }
     }
 
     fn to_bytes(&self) -> Vec<u8> {
         let count = (self.count as u64).to_le_bytes();
-        [&count[..], &self.before, &self.replies, &self.after].concat()
+        [&[self.number], &count[..], &self.before, &self.replies, &self.after].concat()
     }
 
     /// How many bytes of the lent ones are replies.
@@ -80,13 +93,10 @@ impl Left {
 }
 
 /// Answers one case, given and answered in bytes.
-pub fn answer(input: &[u8], call: Call) -> Result<Vec<u8>, Stop> {
+pub fn answer(input: &[u8], conduct: Conduct) -> Result<Vec<u8>, Stop> {
     let case = Case::from_bytes(input)
         .ok_or_else(|| Stop::Cannot("no case of a map: the input ends too early".to_string()))?;
-    let left = Left::by(&case, call).map_err(|refusal| {
-        Stop::Cannot(format!("no case of a map: its opening is refused, {}", refusal.number()))
-    })?;
-    Ok(left.to_bytes())
+    Ok(Left::by(&case, conduct).to_bytes())
 }
 
 pub fn compare(command: &str, from: u64, count: u64, out: &mut impl Write) -> Result<(), Stop> {
@@ -107,7 +117,7 @@ pub fn compare(command: &str, from: u64, count: u64, out: &mut impl Write) -> Re
 }
 
 fn ours(case: &Case) -> Left {
-    Left::by(case, read_map).expect("cases of seeds have a house that opens")
+    Left::by(case, BY_THE_RULES)
 }
 
 /// The first difference in words, if there is one.
@@ -115,7 +125,8 @@ fn explain(case: &Case, ours: &Left, theirs: &[u8]) -> Option<String> {
     let due = ours.to_bytes();
     let same = first_difference(&due, theirs)?;
     let untouched = ours.replies.len() - ours.reply_bytes();
-    let sizes = [COUNT_BYTES, ours.before.len(), ours.reply_bytes(), untouched, ours.after.len()];
+    let sizes =
+        [1, COUNT_BYTES, ours.before.len(), ours.reply_bytes(), untouched, ours.after.len()];
     let mut offset = same;
     let part = sizes.into_iter().position(|size| {
         let is_here = offset < size;
@@ -127,19 +138,22 @@ fn explain(case: &Case, ours: &Left, theirs: &[u8]) -> Option<String> {
     let replies = |earlier: usize| {
         let start = same - offset % REPLY_BYTES;
         let (ours_here, theirs_here) = (reply_at(&due[start..], 0), reply_at(&theirs[start..], 0));
-        let input = case.by_single_requests(ours.count);
-        explain_replies(&input, earlier + index, ("peer", ours_here), ("program", theirs_here))
+        let requests = case.by_single_requests(ours.count);
+        let (_, house) = case.house(Desk::open);
+        let (ours, theirs) = (("peer", ours_here), ("program", theirs_here));
+        explain_in(Ok(house), &requests, earlier + index, ours, theirs)
     };
     let before = ours.before.len() / REPLY_BYTES;
     Some(match part {
-        Some(0) => words_for_counts(case, ours, theirs),
-        Some(1) => format!("the replies before the map differ\n{}", replies(0)),
-        Some(2) => format!(
+        Some(0) => words_for_openings(case, ours.number, theirs.first()),
+        Some(1) => words_for_counts(case, ours, theirs.get(1..).unwrap_or_default()),
+        Some(2) => format!("the replies before the map differ\n{}", replies(0)),
+        Some(3) => format!(
             "the map differs at item {} of its list (the first is 1)\nasked singly it is {}",
             index + 1,
             replies(before)
         ),
-        Some(3) => words_for_untouched(case, ours.reply_bytes() + offset, theirs.get(same)),
+        Some(4) => words_for_untouched(case, ours.reply_bytes() + offset, theirs.get(same)),
         Some(_) => format!(
             "the map is the same, but not what it left in the house: the replies after it differ\n\
              with its items asked singly, it is {}",
@@ -149,6 +163,16 @@ fn explain(case: &Case, ours: &Left, theirs: &[u8]) -> Option<String> {
     })
 }
 
+fn words_for_openings(case: &Case, ours: u8, theirs: Option<&u8>) -> String {
+    let (levels, table) = (hex(&case.levels), hex(&case.table));
+    let theirs = theirs.map_or("nothing".to_string(), u8::to_string);
+    format!(
+        "the openings differ\n  the peer:    {ours}\n  the program: {theirs}\n\
+         the levels are {levels}\nthe table is {table}"
+    )
+}
+
+/// `theirs` begins with the count.
 fn words_for_counts(case: &Case, ours: &Left, theirs: &[u8]) -> String {
     let count = ours.count;
     let theirs = match theirs.first_chunk::<COUNT_BYTES>() {
@@ -201,16 +225,26 @@ const MEETS: [(&str, Meets); 10] = [
     ("a lock of the map seen after it", |_, left| left.shows),
 ];
 
+fn zipped<const N: usize>(numbers: [usize; N], counts: [u64; N]) -> Vec<(usize, u64)> {
+    numbers.into_iter().zip(counts).collect()
+}
+
 fn has_then_done(left: &Left, wanted: fn(u8) -> bool) -> bool {
     let numbers = left.numbers();
     let first = numbers.iter().position(|&number| wanted(number));
     first.is_some_and(|first| numbers[first..].contains(&0))
 }
 
+/// The numbers that an opening can get.
+const OPENINGS: [u8; 4] = [0, 13, 14, 16];
+
 /// What the cases met, so that a comparison that tried nothing is noticed.
 #[derive(Default)]
 struct Met {
     handled: usize,
+    /// By the number of the opening.
+    openings: [u64; OPENINGS.len()],
+    tables: [u64; TABLE_LENGTHS.len()],
     numbers: [u64; 16],
     lengths: [u64; LENGTHS.len()],
     meets: [u64; MEETS.len()],
@@ -219,6 +253,12 @@ struct Met {
 impl Met {
     fn note(&mut self, case: &Case, left: &Left) {
         self.handled += left.count;
+        for (count, number) in self.openings.iter_mut().zip(OPENINGS) {
+            *count += u64::from(left.number == number);
+        }
+        for (count, length) in self.tables.iter_mut().zip(TABLE_LENGTHS) {
+            *count += u64::from(case.table.len() == length);
+        }
         for number in left.numbers() {
             self.numbers[usize::from(number)] += 1;
         }
@@ -238,26 +278,29 @@ impl Met {
     }
 
     fn print(&self, out: &mut impl Write) -> io::Result<()> {
-        let numbers: Vec<String> =
-            self.numbers().map(|(number, count)| format!("{number} {count}")).collect();
-        writeln!(out, "replies to items by number: {}", numbers.join("; "))?;
-        let lengths: Vec<String> =
-            LENGTHS.iter().zip(self.lengths).map(|(n, count)| format!("{n} {count}")).collect();
-        writeln!(out, "maps by the length of the list, of these: {}", lengths.join("; "))?;
-        for ((name, _), count) in MEETS.iter().zip(self.meets) {
-            writeln!(out, "maps with {name}: {count}")?;
-        }
-        Ok(())
+        let tell = |out: &mut dyn Write, what: &str, counts: Vec<(usize, u64)>| {
+            let words = counts.iter().map(|(number, count)| format!("{number} {count}"));
+            writeln!(out, "{what}: {}", words.collect::<Vec<_>>().join("; "))
+        };
+        tell(out, "openings by number", zipped(OPENINGS.map(usize::from), self.openings))?;
+        tell(out, "refused tables by their length", zipped(TABLE_LENGTHS, self.tables))?;
+        let numbers = self.numbers().map(|(number, count)| (number.into(), count)).collect();
+        tell(out, "replies to items by number", numbers)?;
+        tell(out, "maps by the length of the list, of these", zipped(LENGTHS, self.lengths))?;
+        print_met(out, "maps with ", &MEETS, &self.meets)
     }
 
     fn faults(&self) -> Vec<String> {
+        let openings = OPENINGS.iter().zip(self.openings).filter(|(_, count)| *count == 0);
+        let openings = openings.map(|(number, _)| format!("no opening was answered {number}"));
+        let tables = TABLE_LENGTHS.iter().zip(self.tables).filter(|(_, count)| *count == 0);
+        let tables = tables.map(|(length, _)| format!("no table had {length} bytes"));
         let numbers = self.numbers().filter(|(_, count)| *count == 0);
         let numbers = numbers.map(|(number, _)| format!("no item of a map was answered {number}"));
         let lengths = LENGTHS.iter().zip(self.lengths).filter(|(_, count)| *count == 0);
         let lengths = lengths.map(|(length, _)| format!("no map had a list of {length}"));
-        let meets = MEETS.iter().zip(self.meets).filter(|(_, count)| *count == 0);
-        let meets = meets.map(|((name, _), _)| format!("no map had {name}"));
-        numbers.chain(lengths).chain(meets).collect()
+        let meets = unmet(&MEETS, &self.meets).map(|name| format!("no map had {name}"));
+        openings.chain(tables).chain(numbers).chain(lengths).chain(meets).collect()
     }
 }
 
@@ -265,6 +308,7 @@ impl Met {
 mod tests {
     use super::*;
     use crate::cover::ENOUGH;
+    use crate::order::Order;
 
     fn met(seeds: std::ops::Range<u64>) -> Met {
         let mut met = Met::default();
@@ -292,13 +336,13 @@ mod tests {
     fn each_slip_shows_in_the_bytes() {
         let cases: Vec<Case> = (0..100).map(Case::of_seed).collect();
         let due: Vec<Left> = cases.iter().map(ours).collect();
-        for (name, call) in SLIPS {
+        for (name, conduct) in SLIPS {
             let differs = |(case, due): &(&Case, &Left)| {
-                let theirs = Left::by(case, call).expect("a house").to_bytes();
+                let theirs = Left::by(case, conduct).to_bytes();
                 explain(case, due, &theirs).is_some()
             };
             let found = cases.iter().zip(&due).filter(differs).count();
-            assert!(found >= 6, "a map call that {name} was found on {found} of 100 cases only");
+            assert!(found >= 4, "a map call that {name} was found on {found} of 100 cases only");
         }
     }
 
@@ -308,7 +352,8 @@ mod tests {
         let ask = [6, 0, 0, 0, 1, 0, 0, 0, 0, 0, 0, 0];
         let map = Map { level: 0, ticket: 1, items: vec![0, 1, 2, 0] };
         let (before, after) = (begin.to_vec(), ask.to_vec());
-        Case { header: vec![2, 0, 1], before, map, room: 3 * REPLY_BYTES + 5, after }
+        let (levels, table) = (vec![0, 1], Order::CHAIN.table().to_vec());
+        Case { levels, table, before, map, room: 3 * REPLY_BYTES + 5, after }
     }
 
     #[test]
@@ -328,13 +373,14 @@ mod tests {
         assert_eq!(explain(&case, &left, &due), None);
         // Where a byte is changed, and what is then said.
         let cases = [
-            (0, "the program: 2\nthe list has 4 items, the 53 bytes lent have 3 whole"),
-            (8, "before the map differ\nrequest 1 (the first is 1): begin at level 0"),
-            (24 + 16, "at item 2 of its list (the first is 1)\nasked singly it is request 3"),
-            (24 + 16, "they differ in number (peer: 8, program: 9)\nthe house before it"),
-            (24 + 48, "byte 48 of the reply bytes, past the last reply, has to stay a5"),
-            (24 + 53, "byte 0 behind the reply bytes, which was not lent, has to stay a5"),
-            (24 + 69, "the replies after it differ\nwith its items asked singly, it is request 5"),
+            (0, "the openings differ\n  the peer:    0\n  the program: 1\nthe levels are 00 01\n"),
+            (1, "the program: 2\nthe list has 4 items, the 53 bytes lent have 3 whole"),
+            (9, "before the map differ\nrequest 1 (the first is 1): begin at level 0"),
+            (25 + 16, "at item 2 of its list (the first is 1)\nasked singly it is request 3"),
+            (25 + 16, "they differ in number (peer: 8, program: 9)\nthe house before it"),
+            (25 + 48, "byte 48 of the reply bytes, past the last reply, has to stay a5"),
+            (25 + 53, "byte 0 behind the reply bytes, which was not lent, has to stay a5"),
+            (25 + 69, "the replies after it differ\nwith its items asked singly, it is request 5"),
         ];
         for (byte, wanted) in cases {
             let mut theirs = due.clone();
@@ -343,10 +389,11 @@ mod tests {
             assert!(text.contains(wanted), "byte {byte}: {text}");
         }
         let cuts = [
-            (3, "only 3 bytes of a count"),
-            (24 + 20, "only 4 bytes of a reply"),
-            (24 + 60, "is missing: the output ends there"),
-            (24 + 69, "the program: nothing"),
+            (0, "  the program: nothing\nthe levels are 00 01\nthe table is 01 01 01 01 00 01"),
+            (4, "only 3 bytes of a count"),
+            (25 + 20, "only 4 bytes of a reply"),
+            (25 + 60, "is missing: the output ends there"),
+            (25 + 69, "the program: nothing"),
         ];
         for (cut, wanted) in cuts {
             let text = explain(&case, &left, &due[..cut]).expect("a difference");

@@ -1,11 +1,12 @@
-//! CR 3 by brute force: requests struck from above a level change no reply to the others, and
-//! nothing of the house up to that level.
+//! CR 3 by brute force: requests struck that a level does not dominate change no reply to the others,
+//! and nothing of the house at the levels that it dominates.
 
 use crate::compare::{answer_of, compare_one, explain_replies, first_difference, reply_at, Inputs};
 use crate::cover::check_met;
 use crate::desk::{Desk, Item, Place, Refusal, LEVELS, PLACES_PER_LEVEL};
+use crate::order::Order;
 use crate::progress::each_seed;
-use crate::run::{Conduct, BY_THE_RULES};
+use crate::run::{opened, Conduct, BY_THE_RULES};
 use crate::stop::Stop;
 use crate::strike::{stays, Struck, STRUCK, WHOLE};
 use crate::wire::{requests_in, split_header, Operation, Request, REPLY_BYTES};
@@ -48,10 +49,14 @@ fn check_replies(command: &str, input: &[u8]) -> Result<usize, Stop> {
         let due = struck.replies(&whole);
         let explained = |theirs: &[u8]| explain(input, &struck, &due, theirs);
         compare_one(command, &struck.input, due.len(), explained)
-            .map_err(|stop| stop.at(&format!("with the requests above level {k} struck")))?;
+            .map_err(|stop| stop.at(&struck_at(k)))?;
         compared += due.len() / REPLY_BYTES;
     }
     Ok(compared)
+}
+
+fn struck_at(k: u8) -> String {
+    format!("with the requests struck that level {k} does not dominate")
 }
 
 /// The first difference in words, if there is one.
@@ -63,18 +68,21 @@ fn explain(input: &[u8], struck: &Struck, due: &[u8], theirs: &[u8]) -> Option<S
 }
 
 /// What has to be the same in two houses at level k: the items, the places with their cells, and the
-/// next tickets of levels up to k. Which items there are, and at which levels, is nobody's secret.
-fn up_to(desk: &Desk, k: u8) -> impl PartialEq + '_ {
-    let items: Vec<&Item> = desk.items.iter().filter(|item| item.level <= k).collect();
-    let places: Vec<&Place> = desk.places.iter().filter(|place| place.level <= k).collect();
-    (desk.levels(), items, places, &desk.next_ticket[..=usize::from(k)])
+/// next tickets of the levels that k dominates. What the opening fixed is nobody's secret.
+fn up_to(desk: &Desk, k: u8, order: Order) -> impl PartialEq + '_ {
+    let sees = |level| order.dominates(k, level);
+    let items: Vec<&Item> = desk.items.iter().filter(|item| sees(item.level)).collect();
+    let places: Vec<&Place> = desk.places.iter().filter(|place| sees(place.level)).collect();
+    let tickets = (0..LEVELS).zip(desk.next_ticket).filter(|(level, _)| sees(*level));
+    (desk.levels(), desk.order, items, places, tickets.collect::<Vec<_>>())
 }
 
 /// A second reading of CR 3, on the peer's own desk: after each request the house of the whole list
 /// and that of the struck one are the same up to k. Notes what the whole list meets.
 fn check_houses(input: &[u8], conduct: Conduct, met: &mut Met) -> Result<(), String> {
     let (header, requests) = split_header(input);
-    let Some(Ok(mut whole)) = (conduct.open)(header) else {
+    let (Some(Desk { order, .. }), Some(Ok(mut whole))) = (opened(header), (conduct.open)(header))
+    else {
         return Ok(());
     };
     let mut struck = vec![whole.clone(); LEVELS.into()];
@@ -82,11 +90,13 @@ fn check_houses(input: &[u8], conduct: Conduct, met: &mut Met) -> Result<(), Str
         let before = whole.clone();
         let reply = (conduct.answer)(&mut whole, &request);
         for (k, desk) in (0..LEVELS).zip(&mut struck) {
-            met.note(&Moment { k, house: &before, request: &request, number: reply.number });
-            if stays(&request, k) {
+            let moment =
+                Moment { k, order, house: &before, request: &request, number: reply.number };
+            met.note(&moment);
+            if stays(&request, k, order) {
                 (conduct.answer)(desk, &request);
             }
-            if up_to(&whole, k) != up_to(desk, k) {
+            if up_to(&whole, k, order) != up_to(desk, k, order) {
                 return Err(explain_houses(k, number, &request, &whole, desk));
             }
         }
@@ -96,9 +106,9 @@ fn check_houses(input: &[u8], conduct: Conduct, met: &mut Met) -> Result<(), Str
 
 fn explain_houses(k: u8, number: usize, request: &Request, whole: &Desk, struck: &Desk) -> String {
     format!(
-        "with the requests above level {k} struck: the peer's own house is not the same up to \
-         level {k}\nafter request {number} (the first is 1): {}\n\
-         the {WHOLE}:\n{}the {STRUCK}:\n{}",
+        "{}: the peer's own house is not the same at the levels it dominates\n\
+         after request {number} (the first is 1): {}\nthe {WHOLE}:\n{}the {STRUCK}:\n{}",
+        struck_at(k),
         words::request(request),
         words::lock_table(whole),
         words::lock_table(struck)
@@ -108,6 +118,7 @@ fn explain_houses(k: u8, number: usize, request: &Request, whole: &Desk, struck:
 /// A request of the whole list in the house before it, and the number of its reply.
 struct Moment<'a> {
     k: u8,
+    order: Order,
     house: &'a Desk,
     request: &'a Request,
     number: u8,
@@ -115,7 +126,12 @@ struct Moment<'a> {
 
 impl Moment<'_> {
     fn stays(&self) -> bool {
-        stays(self.request, self.k)
+        stays(self.request, self.k, self.order)
+    }
+
+    /// Whether the level is one that k does not dominate.
+    fn is_unseen(&self, level: u8) -> bool {
+        !self.order.dominates(self.k, level)
     }
 
     fn is_delayed(&self) -> bool {
@@ -126,43 +142,47 @@ impl Moment<'_> {
         self.stays() && self.number == 0 && self.request.is(operation)
     }
 
-    /// The open transactions above k.
-    fn above(&self) -> impl Iterator<Item = &Place> {
-        self.house.places.iter().filter(|place| place.level > self.k && place.is_taken())
+    /// The open transactions that k does not dominate.
+    fn unseen(&self) -> impl Iterator<Item = &Place> {
+        self.house.places.iter().filter(|place| self.is_unseen(place.level) && place.is_taken())
     }
 
-    fn is_read_above(&self) -> bool {
+    fn is_read_unseen(&self) -> bool {
         let written = self.house.written_by(self.request);
-        self.above().any(|place| place.reads_one_of(&written))
+        self.unseen().any(|place| place.reads_one_of(&written))
     }
 
-    /// Whether a begin above k was done before.
-    fn has_begun_above(&self) -> bool {
-        self.house.next_ticket.iter().skip(usize::from(self.k) + 1).any(|next| *next != Some(1))
+    /// Whether a begin that k does not dominate was done before.
+    fn has_begun_unseen(&self) -> bool {
+        let mut tickets = (0..LEVELS).zip(self.house.next_ticket);
+        tickets.any(|(level, next)| self.is_unseen(level) && next != Some(1))
     }
 }
 
 /// One of the things that the lists have to meet.
 type Meets = fn(&Moment) -> bool;
 
-/// Each with the highest level at which it can be: nobody is above level 3.
-const MEETS: [(&str, u8, Meets); 7] = [
-    ("a struck request that was done", 2, |at| !at.stays() && at.number == 0),
-    ("a done certify of what somebody above has read", 2, |at| {
-        at.stays_and_is_done(Operation::Certify) && at.is_read_above()
+/// Unseen is whom the level does not dominate.
+const MEETS: [(&str, Meets); 8] = [
+    ("a struck request that was done", |at| !at.stays() && at.number == 0),
+    ("a struck request that was done, of a level that does not dominate it either", |at| {
+        at.number == 0 && at.order.are_apart(at.k, at.request.level)
     }),
-    ("a done begin while eight or more above are open", 2, |at| {
-        at.stays_and_is_done(Operation::Begin) && at.above().count() >= PLACES_PER_LEVEL
+    ("a done certify of what somebody unseen has read", |at| {
+        at.stays_and_is_done(Operation::Certify) && at.is_read_unseen()
     }),
-    ("a done begin after a done begin above", 2, |at| {
-        at.stays_and_is_done(Operation::Begin) && at.has_begun_above()
+    ("a done begin while eight or more unseen are open", |at| {
+        at.stays_and_is_done(Operation::Begin) && at.unseen().count() >= PLACES_PER_LEVEL
     }),
-    ("a delayed request that stays", 2, |at| at.stays() && at.is_delayed()),
-    // The certifier is told who holds it, and not that somebody above reads it too (CR 5).
-    ("a delayed certify of what somebody above has read", 2, |at| {
-        at.stays() && at.is_delayed() && at.request.is(Operation::Certify) && at.is_read_above()
+    ("a done begin after a done begin unseen", |at| {
+        at.stays_and_is_done(Operation::Begin) && at.has_begun_unseen()
     }),
-    ("a struck request whose level byte is above 3", 3, |at| {
+    ("a delayed request that stays", |at| at.stays() && at.is_delayed()),
+    // The certifier is told who holds it, and not that somebody unseen reads it too (CR 5).
+    ("a delayed certify of what somebody unseen has read", |at| {
+        at.stays() && at.is_delayed() && at.request.is(Operation::Certify) && at.is_read_unseen()
+    }),
+    ("a struck request whose level byte is above 3", |at| {
         !at.stays() && at.request.level >= LEVELS
     }),
 ];
@@ -173,16 +193,15 @@ struct Met([[u64; LEVELS as usize]; MEETS.len()]);
 
 impl Met {
     fn note(&mut self, moment: &Moment) {
-        for (counts, (_, _, is_met)) in self.0.iter_mut().zip(MEETS) {
+        for (counts, (_, is_met)) in self.0.iter_mut().zip(MEETS) {
             counts[usize::from(moment.k)] += u64::from(is_met(moment));
         }
     }
 
     /// What has to be met, with the level at which, and how often it was.
     fn counts(&self) -> impl Iterator<Item = (&str, Vec<(u8, u64)>)> {
-        self.0.iter().zip(MEETS).map(|(counts, (name, highest, _))| {
-            (name, (0..=highest).zip(counts.iter().copied()).collect())
-        })
+        let by_level = |counts: &[u64]| (0..LEVELS).zip(counts.iter().copied()).collect();
+        self.0.iter().zip(MEETS).map(move |(counts, (name, _))| (name, by_level(counts)))
     }
 
     fn print(&self, out: &mut impl Write) -> io::Result<()> {
@@ -235,17 +254,18 @@ mod tests {
         }
     }
 
-    /// Slips 1 and 15 show in a reply alone; the others that a level below can notice show in the
-    /// house.
+    /// Slips 1 and 15 show in a reply alone; the others by which a level can notice those that it does
+    /// not dominate show in the house.
     #[test]
-    fn the_houses_show_what_a_level_below_can_notice() {
+    fn the_houses_show_what_a_level_can_notice() {
         for (number, (name, conduct)) in (1..).zip(SLIPS) {
             let shows = |seed: &u64| {
                 let input = generator::input(*seed, 400);
                 check_houses(&input, conduct, &mut Met::default()).is_err()
             };
-            let found = (0..15).filter(shows).count();
-            assert_eq!(found > 0, [2, 10, 11].contains(&number), "{found} of 15: {name}");
+            let found = (0..24).filter(shows).count();
+            let is_noticed = [2, 10, 11, 20, 27, 28, 30].contains(&number);
+            assert_eq!(found > 0, is_noticed, "{found} of 24: {name}");
         }
     }
 }

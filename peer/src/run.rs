@@ -1,6 +1,7 @@
 //! The running desk: bytes in, bytes out, in whatever pieces they arrive.
 
 use crate::desk::{Desk, Refusal, MOST_ITEMS};
+use crate::order::TABLE_BYTES;
 use crate::wire::{split_header, Reply, Request, REQUEST_BYTES};
 use std::io::{self, Read, Write};
 
@@ -17,13 +18,23 @@ pub struct Conduct {
 
 pub const BY_THE_RULES: Conduct = Conduct { open, answer: Desk::answer };
 
-/// A count above 64 is refused without its levels.
 pub fn open(bytes: &[u8]) -> Option<Result<Desk, Refusal>> {
+    open_with(bytes, Desk::open)
+}
+
+/// Opens by the levels and the table of a header. A count of 0 or above 64 is refused without them.
+pub fn open_with(
+    bytes: &[u8],
+    open: impl FnOnce(&[u8], &[u8]) -> Result<Desk, Refusal>,
+) -> Option<Result<Desk, Refusal>> {
     let (&count, rest) = bytes.split_first()?;
-    if usize::from(count) > MOST_ITEMS {
+    let count = usize::from(count);
+    if count == 0 || count > MOST_ITEMS {
         return Some(Err(Refusal::ItemCount));
     }
-    rest.get(..usize::from(count)).map(Desk::open)
+    let (levels, rest) = rest.split_at_checked(count)?;
+    let table = rest.get(..TABLE_BYTES)?;
+    Some(open(levels, table))
 }
 
 enum State {
@@ -45,14 +56,6 @@ impl Run {
         Run { conduct, state: State::Opening, waiting: Vec::new() }
     }
 
-    /// The house, while there is one.
-    pub fn desk(&self) -> Option<&Desk> {
-        match &self.state {
-            State::Open(desk) => Some(desk),
-            State::Opening | State::Stopped => None,
-        }
-    }
-
     pub fn is_stopped(&self) -> bool {
         matches!(self.state, State::Stopped)
     }
@@ -65,7 +68,7 @@ impl Run {
                 None => return Vec::new(),
                 Some(Err(refusal)) => return self.stop(refusal),
                 Some(Ok(desk)) => {
-                    self.waiting.drain(..1 + desk.items.len());
+                    self.waiting.drain(..1 + desk.items.len() + TABLE_BYTES);
                     self.state = State::Open(desk);
                 }
             }
@@ -73,7 +76,7 @@ impl Run {
         self.answer_whole_requests()
     }
 
-    /// The input has ended. Levels cut short are refused; an unfinished request gets no reply.
+    /// The input has ended. A header cut short is refused; an unfinished request gets no reply.
     pub fn end(&mut self) -> Vec<u8> {
         match self.state {
             State::Opening => self.stop(Refusal::ItemCount),
@@ -155,6 +158,7 @@ pub fn serve(mut input: impl Read, mut output: impl Write, conduct: Conduct) -> 
 mod tests {
     use super::*;
     use crate::generator;
+    use crate::order::Order;
     use crate::talk::{DAY_INPUT, DAY_OUTPUT};
     use crate::wire::REPLY_BYTES;
 
@@ -169,21 +173,30 @@ mod tests {
 
     #[test]
     fn refused_and_cut_openings() {
-        let cases: [(&[u8], u8); 8] = [
-            (&[], 13),
-            (&[0], 13),
-            (&[0, 0, 0, 0], 13),
-            (&[65], 13),
-            (&[2, 0], 13),
-            (&[2, 9], 13),
-            (&[1, 4], 14),
-            (&[2, 0, 255, 0, 0, 0, 0, 0, 0, 0, 0, 0, 0, 0, 0], 14),
+        let chain = Order::CHAIN.table();
+        let mut reversed = chain;
+        reversed.reverse();
+        let cases: [(&[u8], &[u8], u8); 13] = [
+            (&[], &[], 13),
+            (&[0], &[], 13),
+            (&[0], &chain, 13),
+            (&[65], &[], 13),
+            (&[2, 0], &[], 13),
+            (&[2, 9], &[], 13),
+            (&[1, 0], &[], 13),
+            (&[1, 0], &chain[..15], 13),
+            (&[2, 0, 4], &[2; 15], 13),
+            (&[1, 4], &chain, 14),
+            (&[2, 0, 255], &[2; 30], 14),
+            (&[1, 0], &[0; 16], 16),
+            (&[1, 3], &[1; 30], 16),
         ];
-        for (input, number) in cases {
-            assert_eq!(output_for(input, BY_THE_RULES), refused(number), "input {input:?}");
+        for (levels, table, number) in cases {
+            let input = [levels, table].concat();
+            assert_eq!(output_for(&input, BY_THE_RULES), refused(number), "input {input:?}");
         }
-        assert_eq!(output_for(&[1, 0], BY_THE_RULES), Vec::new());
-        assert_eq!(output_for(&DAY_INPUT[..37], BY_THE_RULES), DAY_OUTPUT[..32]);
+        assert_eq!(output_for(&[&[1, 0][..], &reversed].concat(), BY_THE_RULES), Vec::new());
+        assert_eq!(output_for(&DAY_INPUT[..53], BY_THE_RULES), DAY_OUTPUT[..32]);
     }
 
     #[test]

@@ -3,6 +3,7 @@
 
 use crate::desk::Desk;
 use crate::generator::Generator;
+use crate::order::Order;
 use crate::progress::each_seed;
 use crate::run::Answer;
 use crate::stop::Stop;
@@ -120,34 +121,40 @@ impl Watch {
 }
 
 /// One random run: how many transactions were committed, and how many reads they had.
-fn check_run(seed: u64, requests: usize, answer: Answer) -> Result<(u64, u64), String> {
-    let mut generator = Generator::new(seed);
+fn check_run(
+    mut generator: Generator,
+    requests: usize,
+    answer: Answer,
+) -> Result<(u64, u64), String> {
     let mut desk = generator.desk().clone();
     let mut watch = Watch::new(&desk);
     for index in 1..=requests {
         let request = generator.next_request();
         let reply = answer(&mut desk, &request);
-        watch
-            .note(&request, &reply, &desk)
-            .map_err(|what| format!("run {seed}, request {index}: {what}"))?;
+        watch.note(&request, &reply, &desk).map_err(|what| format!("request {index}: {what}"))?;
     }
-    watch.table.check_against(&desk).map_err(|what| format!("run {seed}, at its end: {what}"))?;
+    watch.table.check_against(&desk).map_err(|what| format!("at its end: {what}"))?;
     Ok((watch.commits, watch.reads))
 }
 
 pub fn serial(seeds: u64, requests: usize, out: &mut impl Write) -> Result<(), Stop> {
     let (mut commits, mut reads) = (0, 0);
+    let mut orders: Vec<Order> = Vec::new();
     each_seed("checked", 0, seeds, |seed| {
-        let (more_commits, more_reads) =
-            check_run(seed, requests, Desk::answer).map_err(Stop::Found)?;
+        let generator = Generator::new(seed);
+        let order = generator.desk().order;
+        let (more_commits, more_reads) = check_run(generator, requests, Desk::answer)
+            .map_err(|what| Stop::Found(format!("run {seed}, {what}")))?;
         commits += more_commits;
         reads += more_reads;
+        orders.extend((!orders.contains(&order)).then_some(order));
         Ok(())
     })?;
     writeln!(
         out,
-        "checked {seeds} runs of {requests} requests: {commits} committed transactions, with \
-         {reads} reads, are as if run alone in the order of their commits"
+        "checked {seeds} runs of {requests} requests, with {} orders of levels: {commits} committed \
+         transactions, with {reads} reads, are as if run alone in the order of their commits",
+        orders.len()
     )?;
     Ok(())
 }
@@ -160,7 +167,7 @@ mod tests {
     #[test]
     fn the_desk_is_serial() {
         for seed in 0..40 {
-            let (commits, _) = check_run(seed, 400, Desk::answer).expect("serial");
+            let (commits, _) = check_run(Generator::new(seed), 400, Desk::answer).expect("serial");
             assert!(commits > 0, "run {seed} commits nothing");
         }
     }
@@ -168,7 +175,8 @@ mod tests {
     #[test]
     fn a_commit_after_a_signal_is_noticed() {
         let (_, slip) = SLIPS[5];
-        let failed = (0..40).filter_map(|seed| check_run(seed, 400, slip.answer).err());
+        let failed =
+            (0..40).filter_map(|seed| check_run(Generator::new(seed), 400, slip.answer).err());
         assert!(failed.count() > 0);
     }
 }

@@ -3,11 +3,12 @@
 //! not worth running.
 
 use crate::desk::{delayed_by, Cell, Desk, Place, Refusal, Standing, LEVELS, PLACES_PER_LEVEL};
-use crate::run::{self, Answer, Conduct};
+use crate::order::{entry, flaws, levels, Flaw, Order, Table};
+use crate::run::{self, open_with, Answer, Conduct, Open};
 use crate::wire::{Operation, Reply, Request};
 use std::cmp::Reverse;
 
-pub const SLIPS: [(&str, Conduct); 19] = [
+pub const SLIPS: [(&str, Conduct); 30] = [
     ("tells the certifier how many readers were signalled", answers(tells_count)),
     ("delays a certify for a reader above", answers(delays_for_reader_above)),
     ("counts a transaction's own read lock against its certify", answers(counts_own_read)),
@@ -30,11 +31,27 @@ pub const SLIPS: [(&str, Conduct); 19] = [
     ("names the holder at the lowest place on whatever item", answers(looks_at_places_first)),
     ("takes the holder for one of the asker's level", answers(tells_own_level)),
     ("names whoever has a lock on the item, in the way or not", answers(names_any_lock)),
+    ("takes the table's rows for its columns", opens(|bytes| open_with(bytes, by_columns))),
+    ("takes a table that is not transitive", opens(|bytes| open_with(bytes, not_transitive))),
+    ("takes a table that is not antisymmetric", opens(|bytes| open_with(bytes, not_antisymmetric))),
+    ("takes a table that is not reflexive", opens(|bytes| open_with(bytes, not_reflexive))),
+    ("takes a byte above 1 in the table for 1", opens(|bytes| open_with(bytes, byte_above_1))),
+    ("looks at the table before the levels", opens(|bytes| open_with(bytes, table_first))),
+    ("tells of a level byte above 3 before the header is whole", opens(tells_level_early)),
+    ("does a read between incomparable levels", answers(reads_beside)),
+    ("compares levels by number where it reads", answers(reads_by_number)),
+    ("compares levels by number where a certify signals", answers(signals_by_number)),
+    ("delays a certify for a reader of a level with a smaller number", answers(delays_by_number)),
 ];
 
 /// A desk that opens by the rules and answers so.
 const fn answers(answer: Answer) -> Conduct {
     Conduct { open: run::open, answer }
+}
+
+/// A desk that opens so and answers by the rules.
+const fn opens(open: Open) -> Conduct {
+    Conduct { open, answer: Desk::answer }
 }
 
 fn signals(desk: &Desk) -> usize {
@@ -90,7 +107,8 @@ fn tells_count(desk: &mut Desk, request: &Request) -> Reply {
 }
 
 fn delays_for_reader_above(desk: &mut Desk, request: &Request) -> Reply {
-    delay_certify_if(desk, request, |place| place.level > request.level)
+    let order = desk.order;
+    delay_certify_if(desk, request, |place| order.is_above(place.level, request.level))
 }
 
 fn counts_own_read(desk: &mut Desk, request: &Request) -> Reply {
@@ -256,4 +274,85 @@ fn names_any_lock(desk: &mut Desk, request: &Request) -> Reply {
         let item = desk.conflicts(me, request).first()?.0;
         (0..desk.places.len()).find(|&p| p != me && desk.places[p].cell(item) != Cell::default())
     })
+}
+
+/// Opens with a table whose flaws are all of this kind, and otherwise by the rules.
+fn forgiving(levels: &[u8], table: &[u8], is_forgiven: fn(&Flaw) -> bool) -> Result<Desk, Refusal> {
+    match (Desk::open(levels, table), Table::try_from(table)) {
+        (Err(Refusal::NoOrder), Ok(table)) if flaws(&table).iter().all(is_forgiven) => {
+            let house = Desk::open(levels, &Order::CHAIN.table())?;
+            Ok(Desk { order: Order::unjudged(table), ..house })
+        }
+        (opened, _) => opened,
+    }
+}
+
+fn by_columns(items: &[u8], table: &[u8]) -> Result<Desk, Refusal> {
+    let cells = levels().flat_map(|row| levels().map(move |column| table[entry(row, column)]));
+    Desk::open(items, &cells.collect::<Vec<u8>>())
+}
+
+fn not_transitive(levels: &[u8], table: &[u8]) -> Result<Desk, Refusal> {
+    forgiving(levels, table, |flaw| matches!(flaw, Flaw::NotTransitive { .. }))
+}
+
+fn not_antisymmetric(levels: &[u8], table: &[u8]) -> Result<Desk, Refusal> {
+    forgiving(levels, table, |flaw| matches!(flaw, Flaw::NotAntisymmetric { .. }))
+}
+
+fn not_reflexive(levels: &[u8], table: &[u8]) -> Result<Desk, Refusal> {
+    forgiving(levels, table, |flaw| matches!(flaw, Flaw::NotReflexive { .. }))
+}
+
+fn byte_above_1(levels: &[u8], table: &[u8]) -> Result<Desk, Refusal> {
+    let bits: Vec<u8> = table.iter().map(|&byte| byte.min(1)).collect();
+    Desk::open(levels, &bits)
+}
+
+fn table_first(levels: &[u8], table: &[u8]) -> Result<Desk, Refusal> {
+    Desk::open(&[0], table).and_then(|_| Desk::open(levels, table))
+}
+
+fn tells_level_early(bytes: &[u8]) -> Option<Result<Desk, Refusal>> {
+    match run::open(&[bytes, &Order::CHAIN.table()].concat()) {
+        Some(Err(Refusal::LevelByte)) => Some(Err(Refusal::LevelByte)),
+        _ => run::open(bytes),
+    }
+}
+
+/// Answers as the desk does, but by another order.
+fn answer_by(order: Order, desk: &mut Desk, request: &Request) -> Reply {
+    let own = std::mem::replace(&mut desk.order, order);
+    let reply = desk.answer(request);
+    desk.order = own;
+    reply
+}
+
+fn reads_beside(desk: &mut Desk, request: &Request) -> Reply {
+    let Desk { items, order, .. } = &*desk;
+    let mut table = order.table();
+    match items.get(usize::from(request.item)).filter(|_| request.is(Operation::Read)) {
+        Some(item) if request.level < LEVELS && order.are_apart(request.level, item.level) => {
+            table[entry(request.level, item.level)] = 1;
+            answer_by(Order::unjudged(table), desk, request)
+        }
+        _ => desk.answer(request),
+    }
+}
+
+fn by_number(operation: Operation, desk: &mut Desk, request: &Request) -> Reply {
+    let order = if request.is(operation) { Order::CHAIN } else { desk.order };
+    answer_by(order, desk, request)
+}
+
+fn reads_by_number(desk: &mut Desk, request: &Request) -> Reply {
+    by_number(Operation::Read, desk, request)
+}
+
+fn signals_by_number(desk: &mut Desk, request: &Request) -> Reply {
+    by_number(Operation::Certify, desk, request)
+}
+
+fn delays_by_number(desk: &mut Desk, request: &Request) -> Reply {
+    delay_certify_if(desk, request, |place| place.level < request.level)
 }

@@ -1,6 +1,8 @@
-//! Striking (CR 3): of an input all requests whose level byte is above k, of an output the replies
-//! to them, and nothing else.
+//! Striking (CR 3): of an input all requests whose level byte is above 3 or not dominated by k (CR 6),
+//! of an output the replies to them, and nothing else.
 
+use crate::desk::Desk;
+use crate::order::Order;
 use crate::run::opened;
 use crate::wire::{requests_in, split_header, Request, REPLY_BYTES, REQUEST_BYTES};
 
@@ -9,11 +11,11 @@ pub const WHOLE: &str = "whole list";
 pub const STRUCK: &str = "struck list";
 
 /// Whether the request stays at level k.
-pub fn stays(request: &Request, k: u8) -> bool {
-    request.level <= k
+pub fn stays(request: &Request, k: u8, order: Order) -> bool {
+    order.dominates(k, request.level)
 }
 
-/// An input of which the requests above a level are struck.
+/// An input of which the requests that a level does not dominate are struck.
 pub struct Struck {
     /// What is left of it: the header and an unfinished last request stay as they are.
     pub input: Vec<u8>,
@@ -26,11 +28,15 @@ pub struct Struck {
 impl Struck {
     pub fn of(input: &[u8], k: u8) -> Struck {
         let (header, requests) = split_header(input);
-        let stays: Vec<bool> = requests_in(requests).map(|request| stays(&request, k)).collect();
+        let house = opened(header);
+        let is_opened = house.is_some();
+        let order = house.unwrap_or_else(Desk::refused).order;
+        let stays: Vec<bool> =
+            requests_in(requests).map(|request| stays(&request, k, order)).collect();
         let left = kept(requests, REQUEST_BYTES, &stays);
         let unfinished = requests.chunks_exact(REQUEST_BYTES).remainder();
         let input = [header, &left, unfinished].concat();
-        Struck { input, stays, is_opened: opened(header).is_some() }
+        Struck { input, stays, is_opened }
     }
 
     /// Of the output to the whole input, the replies to the requests that stay. The one reply to an
@@ -58,7 +64,9 @@ fn kept(bytes: &[u8], size: usize, stays: &[bool]) -> Vec<u8> {
 #[cfg(test)]
 mod tests {
     use super::*;
+    use crate::order::closed;
     use crate::run::{output_for, BY_THE_RULES};
+    use crate::wire::header;
 
     /// A request of 12 bytes and a reply of 16 that can be told from others.
     fn request(level: u8, mark: u8) -> [u8; REQUEST_BYTES] {
@@ -70,35 +78,51 @@ mod tests {
     }
 
     #[test]
-    fn requests_above_the_level_are_struck_and_nothing_else() {
+    fn requests_not_dominated_by_the_level_are_struck_and_nothing_else() {
         let requests = [request(2, 0), request(0, 1), request(255, 2), request(1, 3)];
         let replies = [reply(0), reply(1), reply(2), reply(3)];
-        let input_of = |requests: Vec<[u8; REQUEST_BYTES]>| {
-            [&[3, 0, 3, 2][..], &requests.concat(), &[0, 3, 0, 0, 0]].concat()
+        let input_of = |order: Order, requests: Vec<[u8; REQUEST_BYTES]>| {
+            let header = header(&[0, 3, 2], &order.table());
+            [&header[..], &requests.concat(), &[0, 3, 0, 0, 0]].concat()
         };
-        let cases: [(u8, &[usize]); 5] =
-            [(0, &[1]), (1, &[1, 3]), (2, &[0, 1, 3]), (254, &[0, 1, 3]), (255, &[0, 1, 2, 3])];
-        for (k, staying) in cases {
-            let struck = Struck::of(&input_of(requests.to_vec()), k);
+        let (chain, diamond) = (Order::CHAIN, Order::DIAMOND);
+        let apart = Order::of(&closed(&[])).expect("an order");
+        let cases: [(Order, u8, &[usize]); 9] = [
+            (chain, 0, &[1]),
+            (chain, 1, &[1, 3]),
+            (chain, 2, &[0, 1, 3]),
+            (chain, 3, &[0, 1, 3]),
+            (diamond, 1, &[1, 3]),
+            (diamond, 2, &[0, 1]),
+            (diamond, 3, &[0, 1, 3]),
+            (apart, 2, &[0]),
+            (apart, 3, &[]),
+        ];
+        for (order, k, staying) in cases {
+            let struck = Struck::of(&input_of(order, requests.to_vec()), k);
             let left = staying.iter().map(|&index| requests[index]).collect();
-            assert_eq!(struck.input, input_of(left), "k = {k}");
+            assert_eq!(struck.input, input_of(order, left), "{order}, k = {k}");
             let left: Vec<_> = staying.iter().map(|&index| replies[index]).collect();
-            assert_eq!(struck.replies(&replies.concat()), left.concat(), "k = {k}");
+            assert_eq!(struck.replies(&replies.concat()), left.concat(), "{order}, k = {k}");
             let indices: Vec<_> = (0..=staying.len()).map(|i| struck.index_in_whole(i)).collect();
-            assert_eq!(indices, [staying, &[requests.len()]].concat(), "k = {k}");
+            assert_eq!(indices, [staying, &[requests.len()]].concat(), "{order}, k = {k}");
         }
     }
 
     #[test]
     fn the_reply_to_an_opening_stays() {
         let requests = [request(3, 0), request(2, 1)].concat();
-        // Where the levels are cut short, what looks like requests is some of them.
-        let cases: [(&[u8], &[u8], &[u8]); 5] = [
+        let table = Order::DIAMOND.table();
+        let headers =
+            [[&[0][..], &table].concat(), header(&[0, 4], &table), header(&[0], &[1; 16])];
+        // Where the levels or the table are cut short, what looks like requests is some of them.
+        let cases: [(&[u8], &[u8], &[u8]); 6] = [
             (&[], &[], &[]),
             (&[2, 0], &[], &[]),
             (&[70], &requests, &requests),
-            (&[0], &requests, &requests[REQUEST_BYTES..]),
-            (&[2, 0, 4], &requests, &requests[REQUEST_BYTES..]),
+            (&headers[0], &requests, &requests[REQUEST_BYTES..]),
+            (&headers[1], &requests, &requests[REQUEST_BYTES..]),
+            (&headers[2], &requests, &requests[REQUEST_BYTES..]),
         ];
         for (header, behind, left) in cases {
             let input = [header, behind].concat();

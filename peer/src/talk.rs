@@ -1,7 +1,8 @@
 //! Words to wire and back: a person types requests in words and sees the replies in words, with
 //! the bytes of both beside them.
 
-use crate::desk::Desk;
+use crate::desk::{Desk, Refusal, LEVELS};
+use crate::order::{closed, flaws, Flaw, Order, Table, TABLE_BYTES};
 use crate::program::Program;
 use crate::stop::Stop;
 use crate::wire::{header, hex, Reply, Request, REPLY_BYTES, REQUEST_BYTES};
@@ -9,8 +10,9 @@ use crate::words;
 use std::io::{self, BufRead, Write};
 
 #[rustfmt::skip]
-pub const DAY_INPUT: [u8; 2 + 3 * REQUEST_BYTES] = [
+pub const DAY_INPUT: [u8; 2 + TABLE_BYTES + 3 * REQUEST_BYTES] = [
     1, 0,
+    1, 1, 1, 1,  0, 1, 0, 1,  0, 0, 1, 1,  0, 0, 0, 1,
     0, 0, 0, 0, 0, 0, 0, 0, 0, 0, 0, 0,
     2, 0, 0, 0, 1, 0, 0, 0, 7, 0, 0, 0,
     1, 0, 0, 0, 1, 0, 0, 0, 0, 0, 0, 0,
@@ -21,11 +23,23 @@ pub const DAY_OUTPUT: [u8; 3 * REPLY_BYTES] = [
     0, 2, 0, 0, 1, 0, 0, 0, 0, 0, 0, 0, 0, 0, 0, 0,
     0, 1, 0, 0, 1, 0, 0, 0, 7, 0, 0, 0, 1, 0, 0, 0,
 ];
-pub const DAY_WORDS: &str = "open 0\nbegin 0\nwrite 0 #1 item 0 = 7\nread 0 #1 item 0\n";
+pub const DAY_WORDS: &str = "\
+open 0 order 0<1 0<2 1<3 2<3
+begin 0
+write 0 #1 item 0 = 7
+read 0 #1 item 0
+";
 
 const HELP: &str = "\
 one line each:
-  open 0 0 2               opens a fresh house: the level of each item, 0 to 3
+  open 0 0 2               opens a fresh house: the level of each item, 0 to 3, in the old
+                           chain, where a larger level dominates a smaller one
+  open 0 1 2 3 order 0<1 0<2 1<3 2<3
+                           the same with an order: 1 and 2 above 0, 3 above both, and all that
+                           follows from these; 'order' alone puts no level above another
+  open 0 1 2 3 table 1111 0101 0011 0001
+                           the same with the bytes of the table, row by row: 1 says that the
+                           column's level dominates the row's
   begin 0                  a new transaction at level 0; its ticket comes back
   read 0 #1 item 0         level 0, ticket 1
   map 0 #1 items 0 1 0     a whole map: the single reads of these items
@@ -105,7 +119,8 @@ pub fn day(command: Option<&str>, out: impl Write) -> Result<(), Stop> {
     if talk.sent != DAY_INPUT || talk.received != DAY_OUTPUT {
         return Err(Stop::Found("these are not the bytes of document 01's day".to_string()));
     }
-    writeln!(talk.out, "these are the bytes of document 01, \"One day at the desk, whole\"")?;
+    let day = "document 01, \"One day at the desk, whole\", with its table (CR 6)";
+    writeln!(talk.out, "these are the bytes of {day}")?;
     talk.sum_up()
 }
 
@@ -119,7 +134,8 @@ impl<'a, W: Write> Talk<'a, W> {
 
     fn converse(&mut self, mut lines: impl BufRead, manner: Manner) -> Result<(), Stop> {
         if manner == Manner::Prompt {
-            writeln!(self.out, "Start with the levels of the items: open 0 0 2 (or help)")?;
+            let examples = "open 0 0 2, or open 0 1 2 order 0<1 0<2";
+            writeln!(self.out, "Start with the levels of the items: {examples} (or help)")?;
         }
         loop {
             if manner == Manner::Prompt {
@@ -154,7 +170,7 @@ impl<'a, W: Write> Talk<'a, W> {
             Some(_) => {}
         }
         match parse_line(line) {
-            Ok(Line::Open(levels)) => self.open(&levels),
+            Ok(Line::Open(opening)) => self.open(&opening),
             Ok(Line::Ask(requests)) => requests.iter().try_for_each(|request| self.ask(request)),
             Err(message) => self.say(&message),
         }
@@ -172,31 +188,32 @@ impl<'a, W: Write> Talk<'a, W> {
     }
 
     /// Each opening has a desk of its own, and a program of its own.
-    fn open(&mut self, levels: &[u8]) -> Result<(), Stop> {
+    fn open(&mut self, opening: &Opening) -> Result<(), Stop> {
         self.close_house()?;
         let mut program = match self.ready.take() {
             None => start(self.command)?,
             ready => ready,
         };
-        let header = header(levels);
+        let header = opening.header();
         if let Some(Err(message)) = program.as_mut().map(|program| program.send(&header)) {
             return self.lose_program(&message);
         }
         self.sent.extend_from_slice(&header);
-        match Desk::open(levels) {
+        match Desk::open(&opening.levels, &opening.table) {
             Ok(desk) => {
-                self.line("opening", &header, &format!("a house with {}", list(levels)))?;
+                self.line("opening", &header, &words::house(&desk))?;
                 self.house = Some(House { desk, program });
                 Ok(())
             }
             Err(refusal) => {
-                self.line("opening", &header, &list(levels))?;
+                self.line("opening", &header, &words::items(&opening.levels))?;
                 let ours = Reply { number: refusal.number(), ..Reply::default() };
                 let theirs = program.as_mut().map(|program| {
                     let reply = program.receive_reply()?;
                     program.check_silent_end().map(|()| reply)
                 });
-                self.take_reply(ours, theirs)?;
+                let flaw = flaws(&opening.table).first().map(Flaw::to_string);
+                self.take_reply(ours, theirs, flaw.map(|flaw| (Refusal::NoOrder, flaw)))?;
                 self.say("the desk has stopped; open again to go on")
             }
         }
@@ -207,18 +224,21 @@ impl<'a, W: Write> Talk<'a, W> {
             return self.say(OPEN_FIRST);
         };
         let theirs = house.program.as_mut().map(|program| program.ask(request));
+        let why = words::why(&house.desk, request);
         let ours = house.desk.answer(request);
         self.requests += 1;
         self.sent.extend_from_slice(&request.to_bytes());
         self.line("request", &request.to_bytes(), &words::request(request))?;
-        self.take_reply(ours, theirs)
+        self.take_reply(ours, theirs, why)
     }
 
-    /// Shows the program's reply, or the peer's own where there is no program.
+    /// Shows the program's reply, or the peer's own where there is no program. `why` says more of the
+    /// refusal that it goes with.
     fn take_reply(
         &mut self,
         ours: Reply,
         theirs: Option<Result<Reply, String>>,
+        why: Option<(Refusal, String)>,
     ) -> Result<(), Stop> {
         let reply = match theirs {
             Some(Err(message)) => return self.lose_program(&message),
@@ -226,7 +246,11 @@ impl<'a, W: Write> Talk<'a, W> {
             None => ours,
         };
         self.received.extend_from_slice(&reply.to_bytes());
-        self.line("reply", &reply.to_bytes(), &words::reply(&reply))?;
+        let mut words = words::reply(&reply);
+        if let Some((_, why)) = why.filter(|(refusal, _)| refusal.number() == reply.number) {
+            words += &format!(": {why}");
+        }
+        self.line("reply", &reply.to_bytes(), &words)?;
         if reply != ours {
             self.differences += 1;
             self.line(
@@ -283,46 +307,77 @@ fn start(command: Option<&str>) -> Result<Option<Program>, Stop> {
     Ok(Some(program))
 }
 
-pub fn list(levels: &[u8]) -> String {
-    match levels {
-        [] => "no items".to_string(),
-        [level] => format!("1 item, at level {level}"),
-        _ => {
-            let words: Vec<String> = levels.iter().map(u8::to_string).collect();
-            format!("{} items, at levels {}", levels.len(), words.join(" "))
-        }
-    }
-}
-
 /// What a line asks of a desk.
 pub enum Line {
-    /// To open a house with items of these levels.
-    Open(Vec<u8>),
+    Open(Opening),
     /// One request, or the single reads of a map.
     Ask(Vec<Request>),
+}
+
+/// The levels of the items, and which level dominates which.
+pub struct Opening {
+    levels: Vec<u8>,
+    table: Table,
+}
+
+impl Opening {
+    pub fn header(&self) -> Vec<u8> {
+        header(&self.levels, &self.table)
+    }
 }
 
 pub fn parse_line(line: &str) -> Result<Line, String> {
     let (verb, rest) = line.split_once(char::is_whitespace).unwrap_or((line, ""));
     Ok(match verb {
-        "open" => Line::Open(parse_levels(rest)?),
+        "open" => Line::Open(parse_opening(rest)?),
         "map" => Line::Ask(parse_map(rest)?),
         "raw" => Line::Ask(vec![parse_raw(rest)?]),
         _ => Line::Ask(vec![words::parse_request(line)?]),
     })
 }
 
-/// The wire has one byte for the count and one for each level; the desk judges the rest.
-fn parse_levels(words: &str) -> Result<Vec<u8>, String> {
-    let level = |word| words::number(Some(word), "a level", u8::MAX.into());
-    let levels: Vec<u8> = words
-        .split_whitespace()
-        .map(|word| level(word).map(|number| number as u8))
-        .collect::<Result<_, _>>()?;
+/// Levels alone mean the old chain.
+fn parse_opening(words: &str) -> Result<Opening, String> {
+    let words: Vec<&str> = words.split_whitespace().collect();
+    let is_told = |word: &&str| ["order", "table"].contains(word);
+    let (levels, told) = words.split_at(words.iter().position(is_told).unwrap_or(words.len()));
+    let levels = parse_levels(levels.iter(), u8::MAX)?;
+    // The wire has one byte for the count and one for each level; the desk judges the rest.
     if levels.len() > usize::from(u8::MAX) {
         return Err("the count of items is one byte: at most 255 levels".to_string());
     }
-    Ok(levels)
+    let table = match told.split_first() {
+        None => Order::CHAIN.table(),
+        Some((&"order", pairs)) => parse_order(pairs)?,
+        Some((_, rows)) => parse_table(&rows.concat())?,
+    };
+    Ok(Opening { levels, table })
+}
+
+fn parse_levels(words: impl Iterator<Item = impl AsRef<str>>, most: u8) -> Result<Vec<u8>, String> {
+    let level = |word: &str| words::number(Some(word), "a level", most.into());
+    words.map(|word| level(word.as_ref()).map(|number| number as u8)).collect()
+}
+
+/// Pairs such as `0<1`, or several in one word such as `0<1<3`, and all that follows from them.
+fn parse_order(words: &[&str]) -> Result<Table, String> {
+    let mut pairs = Vec::new();
+    for word in words {
+        let levels = parse_levels(word.split('<'), LEVELS - 1)?;
+        if levels.len() < 2 {
+            return Err(format!("an order is told in pairs such as 0<1, not '{word}'"));
+        }
+        pairs.extend(levels.windows(2).map(|pair| (pair[0], pair[1])));
+    }
+    Ok(closed(&pairs))
+}
+
+/// A digit for each byte; the desk judges which of them make an order.
+fn parse_table(digits: &str) -> Result<Table, String> {
+    let bytes: Option<Vec<u8>> =
+        digits.chars().map(|digit| digit.to_digit(10).map(|byte| byte as u8)).collect();
+    let table = bytes.and_then(|bytes| Table::try_from(bytes).ok());
+    table.ok_or_else(|| "a table needs 16 digits, such as 1111 0101 0011 0001".to_string())
 }
 
 /// A map is the same as its single reads over the wire (CR 2).
@@ -409,5 +464,58 @@ mod tests {
         assert!(text.contains("13, refused"), "{text}");
         assert!(text.contains("14, refused"), "{text}");
         assert!(text.contains("open a house first"), "{text}");
+    }
+
+    #[test]
+    fn an_order_is_told_in_pairs_or_by_its_bytes() {
+        let diamond = "open 0 1 2 3 order 0<1 0<2 1<3 2<3\n";
+        for line in ["order 0<1<3 0<2<3 0<3", "table 1111 0101 0011 0001", "table 1111010100110001"]
+        {
+            let told = |line: &str| transcript(line).lines().skip(1).collect::<String>();
+            assert_eq!(told(&format!("open 0 1 2 3 {line}\n")), told(diamond));
+        }
+        let text =
+            transcript(&format!("{diamond}begin 1\nread 1 #1 item 2\nread 1 #1 item 0\nshow\n"));
+        assert!(text.contains("a house with 4 items, at levels 0 1 2 3; the order 0<1 0<2 1<3 2<3"));
+        let wanted = "whose level is not dominated: level 1 does not dominate level 2\n";
+        assert!(text.contains(wanted), "{text}");
+        assert!(text.contains("done: value 0, version 0\n"), "{text}");
+        assert!(text.ends_with("levels: the order 0<1 0<2 1<3 2<3\n"), "{text}");
+        let text = transcript("open 0 0 2\nopen 0 order\nopen order 0<1\n");
+        assert!(text.contains("at levels 0 0 2; the old chain 0<1<2<3\n"), "{text}");
+        assert!(text.contains("at level 0; no level above another\n"), "{text}");
+        assert!(
+            text.contains("13, refused: opening: not 1 to 64 items, or the levels or"),
+            "{text}"
+        );
+    }
+
+    #[test]
+    fn a_table_that_is_no_order_is_told_with_its_flaw() {
+        let refused = "16, refused: opening: the table is no order: ";
+        let cases = [
+            ("order 0<1 1<2 2<1", "not antisymmetric: 1 and 2 dominate each other"),
+            (
+                "table 1100 0101 0010 0001",
+                "not transitive: 1 dominates 0 and 3 dominates 1, but 3 ",
+            ),
+            ("table 1111 0101 0001 0001", "not reflexive: 2 does not dominate itself"),
+            ("table 1111 0101 0011 0002", "the byte of row 3 and column 3 is 2, above 1"),
+        ];
+        for (words, flaw) in cases {
+            let text = transcript(&format!("open 0 {words}\nbegin 0\n"));
+            assert!(text.contains(&format!("{refused}{flaw}")), "{text}");
+            assert!(text.contains("the desk has stopped"), "{text}");
+        }
+        // A byte above 3 comes first, and the flaw of the table is not told.
+        let text = transcript("open 4 table 0\nopen 4 table 0000000000000000\n");
+        assert!(text.contains("  a table needs 16 digits"), "{text}");
+        assert!(text.contains("14, refused: opening: a level byte above 3\n"), "{text}");
+        for (words, wanted) in
+            [("0", "in pairs such as 0<1, not '0'"), ("0<4", "'4' is not a level")]
+        {
+            let text = transcript(&format!("open 0 order {words}\n"));
+            assert!(text.contains(wanted), "{text}");
+        }
     }
 }

@@ -1,5 +1,7 @@
 //! Requests and replies as bytes. All numbers are little-endian.
 
+use crate::order::{Table, TABLE_BYTES};
+
 pub const REQUEST_BYTES: usize = 12;
 pub const REPLY_BYTES: usize = 16;
 
@@ -144,15 +146,23 @@ impl Reply {
     }
 }
 
-/// The bytes that open a house: how many items, and the level of each.
-pub fn header(levels: &[u8]) -> Vec<u8> {
-    [&[levels.len() as u8], levels].concat()
+/// The bytes that open a house: how many items, the level of each, and which level dominates which.
+pub fn header(levels: &[u8], table: &Table) -> Vec<u8> {
+    [&[levels.len() as u8], levels, table].concat()
 }
 
 /// The header of an input, as much of it as there is, and the bytes behind it.
 pub fn split_header(input: &[u8]) -> (&[u8], &[u8]) {
-    let header_bytes = 1 + usize::from(input.first().copied().unwrap_or(0));
+    let header_bytes = 1 + usize::from(input.first().copied().unwrap_or(0)) + TABLE_BYTES;
     input.split_at(header_bytes.min(input.len()))
+}
+
+/// The count, the levels and the table of a header, as much as there is of each.
+pub fn split_opening(header: &[u8]) -> (usize, &[u8], &[u8]) {
+    let (&count, rest) = header.split_first().unwrap_or((&0, &[]));
+    let count = usize::from(count);
+    let (levels, table) = rest.split_at(rest.len().min(count));
+    (count, levels, table)
 }
 
 /// The whole requests of these bytes; an unfinished one at their end is none.

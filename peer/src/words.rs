@@ -1,6 +1,6 @@
 //! Requests, replies and the house in words.
 
-use crate::desk::{Cell, Desk, Place, Standing};
+use crate::desk::{Cell, Desk, Place, Refusal, Standing};
 use crate::wire::{Operation, Reply, Request};
 use std::fmt::Write;
 
@@ -64,6 +64,15 @@ fn lock_in_the_way(operation: Option<Operation>) -> &'static str {
     }
 }
 
+/// Of a read that may get 8, which level does not dominate which.
+pub fn why(desk: &Desk, request: &Request) -> Option<(Refusal, String)> {
+    let item = desk.items.get(usize::from(request.item))?;
+    let (level, other) = (request.level, item.level);
+    let is_barred = request.is(Operation::Read) && !desk.order.dominates(level, other);
+    is_barred
+        .then(|| (Refusal::WrongLevel, format!("level {level} does not dominate level {other}")))
+}
+
 /// The reasons of the table of numbers, put for the operation at hand where it names several.
 fn reason(number: u8, operation: Option<Operation>) -> &'static str {
     match (number, operation) {
@@ -74,15 +83,16 @@ fn reason(number: u8, operation: Option<Operation>) -> &'static str {
         (6, _) => "no open transaction at that level has that ticket",
         (7, _) => "no such item",
         (8, Some(Operation::Write)) => "write of an item not at the level",
-        (8, _) => "read of an item above the level",
+        (8, _) => "read of an item whose level is not dominated",
         (9, Some(Operation::Commit)) => "wrong time: the transaction is not certified yet",
         (9, _) => "wrong time: the transaction is certified already",
         (10, _) => "the committed version of the item is 4,294,967,295",
         (11, _) => "all eight places of the level are taken",
         (12, _) => "no ticket is left at the level",
-        (13, _) => "opening: not 1 to 64 items, or the levels were cut short",
+        (13, _) => "opening: not 1 to 64 items, or the levels or the table were cut short",
         (14, _) => "opening: a level byte above 3",
         (15, _) => "write of a blank sheet: the value is 0",
+        (16, _) => "opening: the table is no order",
         _ => "a number that the table does not have",
     }
 }
@@ -110,7 +120,23 @@ pub fn differing_fields(left: (&str, &Reply), right: (&str, &Reply)) -> String {
     differing.join(", ")
 }
 
-/// The lock table: items by open transactions with their marks, then the next tickets.
+/// A house as it was opened, such as `a house with 1 item, at level 0; the order 0<1`.
+pub fn house(desk: &Desk) -> String {
+    format!("a house with {}; {}", items(&desk.levels()), desk.order)
+}
+
+pub fn items(levels: &[u8]) -> String {
+    match levels {
+        [] => "no items".to_string(),
+        [level] => format!("1 item, at level {level}"),
+        _ => {
+            let words: Vec<String> = levels.iter().map(u8::to_string).collect();
+            format!("{} items, at levels {}", levels.len(), words.join(" "))
+        }
+    }
+}
+
+/// The lock table: items by open transactions with their marks, then the next tickets and the order.
 pub fn lock_table(desk: &Desk) -> String {
     let open: Vec<&Place> = desk.places.iter().filter(|place| place.is_taken()).collect();
     let names: Vec<String> = open.iter().map(|place| name(place)).collect();
@@ -137,6 +163,7 @@ pub fn lock_table(desk: &Desk) -> String {
         let next = next.map_or("none left".to_string(), |ticket| format!("#{ticket}"));
         let _ = writeln!(text, "level {level}: next ticket {next}, {taken} of 8 places taken");
     }
+    let _ = writeln!(text, "levels: {}", desk.order);
     text
 }
 
@@ -266,7 +293,7 @@ mod tests {
             for operation in 0..=255 {
                 let words = reply(&Reply { number, operation, ..Reply::default() });
                 let known = !words.contains("does not have");
-                assert_eq!(known, number <= 15, "{words}");
+                assert_eq!(known, number <= 16, "{words}");
             }
         }
     }

@@ -62,49 +62,61 @@ fn the_peer_agrees_with_itself() {
 }
 
 /// How many slips there are; `wrong_usage_is_told` sees that none is left out here.
-const SLIPS: usize = 19;
+const SLIPS: usize = 30;
 
-/// Those by which a level below notices somebody above, with what `quiet` says of each: the level,
-/// the request and the fields.
-const NOTICED: [(usize, u8, &str, &str); 5] = [
-    (1, 0, " certifies", "they differ in value (whole list: 6, struck list: 0)"),
+/// Those by which a level notices somebody whom it does not dominate, with what `quiet` says of each:
+/// the level, the request and the fields.
+const NOTICED: [(usize, u8, &str, &str); 10] = [
+    (1, 0, " certifies", "they differ in value (whole list: 1, struck list: 0)"),
     (2, 0, " certifies", "they differ in number (whole list: 1, struck list: 0)"),
-    (10, 0, "begin at level 0", "they differ in ticket (whole list: 31, struck list: 1)"),
-    (11, 2, "begin at level 2", "they differ in number (whole list: 11, struck list: 0)"),
-    (15, 0, " certifies", "they differ in value (whole list: 3, struck list: 13), version (whole"),
+    (10, 0, "begin at level 0", "they differ in ticket (whole list: 15, struck list: 1)"),
+    (11, 0, "begin at level 0", "they differ in number (whole list: 11, struck list: 0)"),
+    (15, 0, " certifies", "they differ in version (whole list: 2, struck list: 3)"),
+    (19, 0, " certifies", "they differ in version (whole list: 2, struck list: 3)"),
+    (20, 3, " reads item 1", "they differ in value (whole list: 670162773, struck list: 0)"),
+    (27, 0, " reads item 5", "they differ in value (whole list: 46, struck list: 0), version"),
+    (28, 1, " reads item 2", "they differ in number (whole list: 1, struck list: 0), value"),
+    (30, 3, " certifies", "they differ in number (whole list: 1, struck list: 0)"),
 ];
+
+/// Those that open a house where it has to be refused.
+const OPENED: std::ops::RangeInclusive<usize> = 21..=24;
 
 #[test]
 fn compare_finds_every_slip() {
     for slip in 1..=SLIPS {
         let program = format!("{PEER} slip {slip}");
         let wanted = ["the outputs differ", "they differ in", "the house before it"];
-        assert_says(&["compare", &program, "100", "400"], 1, &wanted);
+        // Nobody stands in a house where the opening is refused.
+        let wanted = if slip < 20 { &wanted } else { &wanted[..1] };
+        assert_says(&["compare", &program, "100", "400"], 1, wanted);
     }
 }
 
 #[test]
-fn quiet_finds_what_a_level_below_can_notice() {
+fn quiet_finds_what_a_level_can_notice() {
     for (slip, level, request, fields) in NOTICED {
         let struck = format!(
-            "with the requests above level {level} struck: a reply is not the same\nrequest"
+            "with the requests struck that level {level} does not dominate: a reply is not the \
+             same\nrequest"
         );
         let wanted = ["input of 'peer gen", &struck, request, fields, "the house before it"];
         assert_says(&["quiet", &format!("{PEER} slip {slip}"), "100", "400"], 1, &wanted);
     }
 }
 
-/// `compare` finds these slips; but no level notices by them what is above it.
+/// `compare` finds these slips; but no level notices by them whom it does not dominate.
 #[test]
-fn quiet_is_about_what_is_above_and_not_about_agreement() {
+fn quiet_is_about_what_is_not_dominated_and_not_about_agreement() {
     let is_noticed = |slip: &usize| NOTICED.iter().any(|(noticed, ..)| noticed == slip);
-    for slip in (1..=SLIPS).filter(|slip| !is_noticed(slip)) {
+    let is_found = |slip: &usize| is_noticed(slip) || OPENED.contains(slip);
+    for slip in (1..=SLIPS).filter(|slip| !is_found(slip)) {
         let program = format!("{PEER} slip {slip}");
-        assert_says(&["quiet", &program, "20", "400"], 0, &["struck 20 inputs", ": no difference"]);
+        assert_says(&["quiet", &program, "12", "400"], 0, &["struck 12 inputs", ": no difference"]);
     }
     let program = format!("{PEER} slip 6");
     let wanted =
-        ["a done begin while eight or more above are open: ", "at level 2\n", "at level 3\n"];
+        ["a done begin while eight or more unseen are open: ", "at level 3\n", "struck 100 inputs"];
     assert_says(&["quiet", &program, "100", "400", "--from", "900"], 0, &wanted);
 }
 
@@ -113,24 +125,30 @@ fn quiet_finds_programs_that_are_no_desk_and_lists_that_try_too_little() {
     assert_says(&["quiet", "true", "3", "10"], 1, &["the whole list: its output ends after 0 of"]);
     let program = script("writes_one_byte_more", &format!("'{PEER}' run; printf x"));
     assert_says(&["quiet", &program, "3", "10"], 1, &["the whole list: its output goes on after"]);
+    for slip in OPENED {
+        let wanted = ["the whole list: its output goes on after the 16 bytes due"];
+        assert_says(&["quiet", &format!("{PEER} slip {slip}"), "100", "10"], 1, &wanted);
+    }
     assert_says(&["quiet", "no-such-program", "3", "10"], 2, &["cannot start"]);
     // It answers as a desk does, but ends in another way on an input that is too short for it.
     let (kept, whole) = (file("kept", ""), peer(&["gen", "0", "20"]).stdout.len());
     let lines =
         format!("cat >'{kept}'; '{PEER}' run <'{kept}'; exit $(($(wc -c <'{kept}') < {whole}))");
-    let wanted = ["with the requests above level 0 struck: it ended with exit status 1"];
+    let struck = "with the requests struck that level 0 does not dominate";
+    let wanted = [&*format!("{struck}: it ended with exit status 1")];
     assert_says(&["quiet", &script("wants_more", &lines), "1", "20"], 1, &wanted);
     let own = format!("{PEER} run");
     assert_says(&["quiet", &own, "3", "10", "--from", "7"], 0, &["struck 3 inputs"]);
-    let wanted = ["at level 0 the lists never met a done certify of what somebody above has read"];
+    let wanted = ["at level 0 the lists never met a done certify of what somebody unseen has read"];
     assert_says(&["quiet", &own, "100", "5"], 1, &wanted);
 }
 
 #[test]
 fn beside_shows_a_day_with_and_without_a_teacher() {
     let wanted = [
-        "a day with a teacher marking and the same day without\nin a house with 3 items",
-        "the whole list                                   the struck list: without levels above 0",
+        "a day with a teacher marking and the same day without\nin a house with 3 items, at levels 0 ",
+        "; the order 0<1 0<2 1<3 2<3\n",
+        "the whole list                                   the struck list: without what level 0 does",
         "  1 begin at level 0                                 the same\n    00 00 00 00 01 00 00",
         "  3 begin at level 2                                 struck\n    00 00 00 00 01 00 00",
         "00 00 00 00\n    1, delayed: ticket 2 of level 0 holds it",
@@ -150,15 +168,21 @@ fn beside_shows_a_day_with_and_without_a_teacher() {
 
 #[test]
 fn beside_takes_any_input() {
-    let day = b"open 1 0\n\nbegin 1\nmap 1 #1 items 0 1\nraw 0 9 0 0 0 0 0 0 0 0 0 0\nbegin 0\n";
+    let day = b"open 1 0 order 0<1\n\nbegin 1\nmap 1 #1 items 0 1\nraw 0 9 0 0 0 0 0 0 0 0 0 0\nbegin 0\n";
     let input = peer_with_input(&["bytes"], day).stdout;
-    for (level, counts) in [("0", "1 requests stay, 4"), ("8", "4 requests stay, 1")] {
-        assert_says_of(&input, &["beside", level], 0, &["4, refused: level above 3", counts]);
+    let stay =
+        ["1 requests stay, 4", "4 requests stay, 1", "0 requests stay, 5", "0 requests stay, 5"];
+    for (level, counts) in stay.into_iter().enumerate() {
+        let wanted = ["4, refused: level above 3", counts];
+        assert_says_of(&input, &["beside", &level.to_string()], 0, &wanted);
     }
     let refused = [&[1, 7][..], &input[3..]].concat();
     let own = format!("{PEER} run");
-    let wanted =
-        ["  1 the opening is refused: 01 07 ", "14, refused", "no request is answered; the reply"];
+    let wanted = [
+        "  1 the opening is refused: 01 07 01",
+        "14, refused",
+        "no request is answered; the reply",
+    ];
     assert_says_of(&refused, &["beside", "0", &own], 0, &wanted);
     assert_says(&["beside", "0", &own], 0, &["the opening is refused: no bytes", "13, refused"]);
     let silent = ["the whole list: its output ends after 0 of 80 bytes"];
@@ -200,23 +224,27 @@ fn maps_finds_every_slip() {
         ("7", "the map is the same, but not what it left in the house"),
         ("8", "the counts differ"),
         ("9", "the map is the same, but not what it left in the house"),
+        ("10", "the openings differ\n  the peer:    13\n  the program: 0"),
+        ("11", "the openings differ\n  the peer:    13\n  the program: 16"),
     ];
     for (slip, words) in wanted {
         let program = format!("{PEER} map --slip {slip}");
         assert_says(&["maps", &program, "100"], 1, &["input of 'peer gen --map", words]);
     }
-    assert_says(&["map", "--slip", "10"], 2, &["there is no slip 10: K is 1 to 9"]);
+    assert_says(&["map", "--slip", "12"], 2, &["there is no slip 12: K is 1 to 11"]);
 }
 
 #[test]
 fn maps_finds_programs_that_are_no_map_call() {
-    assert_says(&["maps", "true", "3"], 1, &["only 0 bytes of a count"]);
-    assert_says(&["maps", "cat", "3"], 1, &["the counts differ"]);
+    assert_says(&["maps", "true", "3"], 1, &["the openings differ", "the program: nothing"]);
+    assert_says(&["maps", "cat", "3"], 1, &["the openings differ"]);
     assert_says(&["maps", "no-such-program", "3"], 2, &["cannot start"]);
     let program = script("map_ends_with_3", &format!("'{PEER}' map; exit 3"));
     assert_says(&["maps", &program, "3"], 1, &["it ended with exit status 3"]);
     assert_says(&["map"], 2, &["no case of a map: the input ends too early"]);
-    // A case whose house has no items.
+    // A case whose house has no items: the opening is refused, and nothing more is asked.
+    let left = [&[13, 0, 0, 0, 0, 0, 0, 0, 0][..], &[0xa5; 16]].concat();
+    assert_eq!(peer_with_input(&["map"], &[0; 13]).stdout, left);
     assert_eq!(peer_with_input(&["map"], &[0; 12]).status.code(), Some(2));
 }
 
@@ -292,7 +320,7 @@ fn guide_plays_recipes() {
 fn the_guide_of_the_desk_is_right_and_finds_slips() {
     let guide = concat!(env!("CARGO_MANIFEST_DIR"), "/../docs/GUIDE.md");
     assert_says(&["guide", guide], 0, &["every byte as the guide says"]);
-    for slip in [1, 2, 3, 5, 6, 15, 16, 17, 18] {
+    for slip in [1, 2, 3, 5, 6, 15, 16, 17, 18, 20, 27, 28] {
         let program = format!("{PEER} slip {slip}");
         assert_says(&["guide", guide, &program], 1, &["GUIDE.md: line", "now is said:"]);
     }
@@ -312,7 +340,7 @@ fn wrong_usage_is_told() {
     assert_says(&["quiet", "x", "1"], 2, &["wrong usage of quiet", "quiet PROGRAM SEEDS N"]);
     assert_says(&["quiet", "x", "0", "400"], 2, &["SEEDS has to be at least 1"]);
     assert_says(&["beside"], 2, &["wrong usage of beside", "beside K", "beside --day"]);
-    assert_says(&["beside", "256"], 2, &["'256' is not a level: a number from 0 to 255 is wanted"]);
+    assert_says(&["beside", "4"], 2, &["'4' is not a level: a number from 0 to 3 is wanted"]);
     assert_says(&["bytes", "x"], 2, &["wrong usage of bytes"]);
     assert_says(&["slip", "0"], 2, &[&format!("there is no slip 0: K is 1 to {SLIPS}\n")]);
     assert_says(&["--help"], 0, &["usage: peer COMMAND"]);

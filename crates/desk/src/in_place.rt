@@ -47,6 +47,7 @@ pub fn turn_in_place(h: House, requests: &[u8], replies: &mut [u8], most: usize)
     let mut n = 0;
     while n < count {
         let q = request_at(requests, n * 12);
+        let order = h.order;
         let level = (q.level % 4) as usize;
         let ticket = h.next[level];
         let item = (q.item % 64) as usize;
@@ -63,6 +64,7 @@ pub fn turn_in_place(h: House, requests: &[u8], replies: &mut [u8], most: usize)
         let p7 = h.places[b + 7];
         let view = View {
             count: h.count,
+            order,
             eight: [p0, p1, p2, p3, p4, p5, p6, p7],
             ticket,
             row,
@@ -94,7 +96,8 @@ pub fn turn_in_place(h: House, requests: &[u8], replies: &mut [u8], most: usize)
                 h.pending[i] = value;
             }
             Change::Certify(me) => {
-                certify_cells(&mut h.cells, me);
+                let order = h.order;
+                certify_cells(&mut h.cells, &order, me);
                 let place = h.places[me];
                 let seat = certified(place);
                 h.places[me] = seat;

@@ -1,94 +1,86 @@
 -- Laws of an opening's bytes.
 -- Assumes nothing.
-use Prim.Native.Nat.{ℕ, _+_, _-_, _^_, _≤_, _<_}
+use Prim.Native.Nat.{ℕ, _+_, _-_, _≤_, _<_}
 use native.Mathlib.Omega.{arith}
 use mathlib.Core.Path.{_≡_, refl, sym, _∙_}
-use mathlib.Core.Logic.{inl, inr}
-use mathlib.Core.Bool.{true, false, cond}
-use mathlib.Core.List.{List, [], _∷_}
+use mathlib.Core.Logic.{_⊎_, inl, inr}
+use mathlib.Core.Bool.{true, false, _&&_, _||_}
+use mathlib.Core.List.{List, []}
 use lib.ListN.{length, take, drop, length-take, length-drop}
-use lib.Dec.{eqb, ltb}
-use mir.Syntax.{w64}
-use mir.Val.{Fits}
-use borrow.Author.Tests.{ltb-true, lt-ltb, ne-eqb}
+use lib.Dec.{eqb, ltb, leb}
+use borrow.Author.Tests.{leb-true, leb-false, ltb-false, ne-eqb}
 use Rattle.house.specs.declared.Opening.{Opening}
-use Rattle.house.specs.Opening.{wrongLength, openVerdict, opening}
-use Rattle.house.proofs.Tests.{is, clash, or-elim, or-right}
+use Rattle.house.specs.Opening.{wrongLength, wrongTable, openVerdict, opening}
+use Rattle.house.proofs.Tests.{is, or-left, or-right, or-false, not-of}
 use Rattle.dialogue.specs.declared.Fed.{Fed}
 use Rattle.dialogue.specs.declared.Stage.the-variants.{Refused}
-use Rattle.dialogue.specs.Dialogue.{announced, decided, levels, header, drops, serves, opens}
+use Rattle.dialogue.specs.Dialogue.{announced, header, levels, table, openingOf, hopeless, decided, drops, serves, opens}
 
--- a byte that is not 0 is there
-pub there : (b : List ℕ) → ltb 64 (announced b) ≡ true → 1 ≤ length b
-there [] e = absurd (omega (arith, ltb-true 64 0 e))
-there (x ∷ b) e = omega arith
-
--- the levels came, where no more than 64 were announced
-come : (b : List ℕ) → decided b ≡ true → ltb 64 (announced b) ≡ false → ltb (announced b) (length b) ≡ true
-unfolding decided
-come b d f = or-elim (ltb (announced b) (length b)) (ltb 64 (announced b)) d (λ l. l) (λ y. clash y f)
-
--- the bytes to be opened are there
-levels-there : (b : List ℕ) → decided b ≡ true → cond (ltb 64 (announced b)) 0 (announced b) + 1 ≤ length b
-levels-there b d =
-    elim (is (ltb 64 (announced b))) [
-      | inl y ↦ rw y (there b y)
-      | inr f ↦ rw f (omega (arith, ltb-true (announced b) (length b) (come b d f)))
-    ]
-
--- no levels are refused, and more than 64 as none are
-pub no-levels : opening [] .number ≡ 13
+-- no levels are refused, and with them whatever is of a wrong length
+pub no-levels : opening [] [] .number ≡ 13
 unfolding opening openVerdict wrongLength
 no-levels = refl
 
-too-long : (l : List ℕ) → 64 < length l → opening l ≡ opening []
+misfit : (l t : List ℕ) → (wrongLength l || wrongTable t) ≡ true → opening l t ≡ opening [] []
 unfolding opening openVerdict wrongLength
-too-long l h = rw (or-right (eqb (length l) 0) (ltb 64 (length l)) (lt-ltb 64 (length l) h))
+misfit l t e = rw e
 
--- cut short or not
-pub long-opening : (b : List ℕ) → ltb 64 (announced b) ≡ true → opening (levels b) ≡ opening []
-unfolding levels
-long-opening b y =
-    elim (is (ltb (announced b) (length b))) [
-      | inl e ↦ rw e (too-long (take (announced b) (drop 1 b)) (rw (length-take (announced b) (drop 1 b), length-drop 1 b) (omega (arith, ltb-true (announced b) (length b) e, ltb-true 64 (announced b) y))))
-      | inr e ↦ rw e
+-- all of an opening came, or it is cut short: then it is refused so
+pub came : (b : List ℕ) → (header b ≤ length b) ⊎ (length b < header b)
+came b = elim (is (leb (header b) (length b))) [ inl y ↦ inl (leb-true _ _ y) | inr n ↦ inr (leb-false _ _ n) ]
+
+pub cut-short : (b : List ℕ) → length b < header b → openingOf b ≡ opening [] []
+unfolding wrongTable
+cut-short b s =
+    let rest = drop (announced b + 1) b in
+    misfit (levels b) (table b) (or-right (wrongLength (levels b)) _ (not-of _ (ne-eqb (length (table b)) 16 (λ e. omega (arith, length-take 16 rest, length-drop (announced b + 1) b)))))
+
+-- and one whose number is hopeless, whether it came or not
+pub none-hoped : (b : List ℕ) → hopeless (announced b) ≡ true → openingOf b ≡ opening [] []
+unfolding hopeless wrongLength
+none-hoped b y =
+    elim (came b) [
+      | inl come ↦
+          let all : length (levels b) ≡ announced b = rw (length-take (announced b) (drop 1 b), length-drop 1 b) (omega arith) in
+          misfit (levels b) (table b) (or-left (wrongLength (levels b)) _ (rw all y))
+      | inr short ↦ cut-short b short
     ]
 
--- where levels are opened, n of them are there
-pub opened-there : (b : List ℕ) → opening (levels b) .number ≡ 0 → header b ≤ length b
-unfolding levels
-opened-there b o =
-    elim (is (ltb (announced b) (length b))) [
-      | inl y ↦ omega (arith, ltb-true (announced b) (length b) y)
-      | inr n ↦ absurd (omega (arith, rw n at o, no-levels))
+-- what is opened came
+pub opened-there : (b : List ℕ) → openingOf b .number ≡ 0 → header b ≤ length b
+opened-there b o = elim (came b) [ inl come ↦ come | inr short ↦ absurd (omega (arith, rw (cut-short b short) at o, no-levels)) ]
+
+-- of what is not decided more is to come, and it is little
+pub undecided : (b : List ℕ) → decided b ≡ false → (length b < header b) × (length b ≤ 80)
+unfolding decided hopeless
+undecided b n =
+    let u = or-false (leb (header b) (length b)) (ltb 0 (length b) && hopeless (announced b)) n in
+    let short = leb-false (header b) (length b) (u .0) in
+    elim (is (ltb 0 (length b))) [
+      | inl some ↦ (short, omega (arith, short, ltb-false 64 (announced b) (or-false (eqb (announced b) 0) (ltb 64 (announced b)) (rw some at (u .1)) .1)))
+      | inr none ↦ (short, omega (arith, ltb-false 0 (length b) none))
     ]
 
--- of the number n that came first, the m levels that are opened, and what their opening gave
-module _ (b : List ℕ) (n m : ℕ) (first : n ≡ announced b) (counted : m ≡ cond (ltb 64 n) 0 n) where
-  pub levels-end : decided b ≡ true → m + 1 ≤ length b
-  levels-end d = rw (counted, first) (levels-there b d)
+-- of the number n that came first, what is opened, and what is made of the bytes past it
+module _ (b : List ℕ) (n : ℕ) (first : n ≡ announced b) (o : Opening) where
+  pub front-short : length b < n + 17 → o ≡ opening [] [] → o ≡ openingOf b
+  front-short s e = e ∙ sym (cut-short b (rw first at s))
 
-  pub levels-fit : decided b ≡ true → length b < 2 ^ 64 → Fits w64 (m + 1)
-  levels-fit d l = omega (arith, levels-end d)
+  pub front-whole : o ≡ opening (take (n + 1 - 1) (drop 1 b)) (take (n + 17 - (n + 1)) (drop (n + 1) b)) → o ≡ openingOf b
+  front-whole e =
+      let p : n + 1 - 1 ≡ n = omega arith in
+      let q : n + 17 - (n + 1) ≡ 16 = omega arith in
+      rw (p, q, first) at e
 
-  module _ (o : Opening) (opened : o ≡ opening (take (m + 1 - 1) (drop 1 b))) where
-    opened-levels : decided b ≡ true → o ≡ opening (levels b)
-    unfolding levels
-    opened-levels d =
-        let e : m + 1 - 1 ≡ m = omega arith in
-        let so = rw (e, counted, first) at opened in
-        elim (is (ltb 64 (announced b))) [
-          | inl y ↦ (rw y at so) ∙ sym (long-opening b y)
-          | inr f ↦ (rw f at so) ∙ rw (come b d f)
-        ]
+  module _ (opened : o ≡ openingOf b) where
+    pub opened-past : (j : ℕ) → j ≤ 17 → o .number ≡ 0 → n + j ≤ length b
+    opened-past j f z = rw first (omega (arith, opened-there b (rw opened at z)))
 
-    pub opened-past : (j : ℕ) → j ≤ 1 → decided b ≡ true → o .number ≡ 0 → n + j ≤ length b
-    opened-past j f d z = rw first (omega (arith, opened-there b (rw (opened-levels d) at z)))
-
-    pub opens-open : (x : Fed × List ℕ) (room : List ℕ) → x ≡ serves (o .house) (n + 1) b room → decided b ≡ true → o .number ≡ 0 → x ≡ opens b room
+    pub opens-open : (x : Fed × List ℕ) (room : List ℕ) → x ≡ serves (o .house) (n + 17) b room → o .number ≡ 0 → x ≡ opens b room
     unfolding opens
-    opens-open x room s d z = s ∙ rw (sym (opened-levels d), z, first)
+    opens-open x room s z = s ∙ rw (sym opened, z, first)
 
-    pub opens-refused : (room : List ℕ) → decided b ≡ true → (o .number ≡ 0 → ⊥) → drops (record { stage = Refused (o .number); house = o .house }) b room ≡ opens b room
-    unfolding opens
-    opens-refused room d z = rw (sym (opened-levels d), ne-eqb (o .number) 0 z)
+-- an opening that is refused
+pub opens-refused : (b room : List ℕ) (o : Opening) → o ≡ openingOf b → (o .number ≡ 0 → ⊥) → drops (record { stage = Refused (o .number); house = o .house }) b room ≡ opens b room
+unfolding opens
+opens-refused b room o opened z = rw (sym opened, ne-eqb (o .number) 0 z)

@@ -4,26 +4,26 @@ use Prim.Native.Nat.{ℕ, zero, _+_, _*_, _/_, _<_, _≤_}
 use native.Mathlib.Omega.{arith}
 use mathlib.Core.Path.{_≡_, refl, sym, ap, _∙_}
 use mathlib.Core.Logic.{inl, inr}
-use mathlib.Core.Bool.{true, false}
+use mathlib.Core.Bool.{true, false, _&&_}
 use mathlib.Core.List.{List, [], _∷_, _++_, append-assoc, append-nil}
 use lib.ListN.{length, take, drop, length-append, length-drop, take-append-drop, List·getD-append}
 use lib.Seq.{length-take-le, getD-take, take-at, drop-at, drop-drop, drop-append-le, take-append-le, drop-length}
-use lib.Dec.{eqb, ltb}
-use borrow.Author.Tests.{eqb-true, ltb-true, ltb-false, lt-ltb}
+use lib.Dec.{eqb, ltb, leb}
+use borrow.Author.Tests.{eqb-true, ltb-true, leb-true}
 use Rattle.house.specs.declared.House.{House}
 use Rattle.house.specs.Opening.{opening}
 use Rattle.house.specs.Run.{finally, replies}
 use Rattle.house.proofs.Runs.{finally-append}
-use Rattle.house.proofs.Tests.{is, or-elim, or-false}
+use Rattle.house.proofs.Tests.{is, and-true, or-elim}
 use Rattle.desk.specs.Turn.{requests, wired, share, housed, turned, answered}
 use Rattle.desk.proofs.Laws.{requests-add, length-wired, replied-append}
 use Rattle.desk.proofs.TwoTurns.{requests-append}
 use Rattle.dialogue.specs.declared.Fed.{Fed}
 use Rattle.dialogue.specs.declared.Dialogue.{Dialogue}
 use Rattle.dialogue.specs.declared.Stage.the-variants.{Waiting, Refused}
-use Rattle.dialogue.specs.Dialogue.{announced, decided, levels, header, refusal, atStage, started, ended, drops, serves, opens, fed}
+use Rattle.dialogue.specs.Dialogue.{announced, header, hopeless, decided, refusal, atStage, started, ended, drops, serves, opens, fed, openingOf}
 use Rattle.dialogue.specs.Pieces.{runOf, pastOpening, programmed, Piece, joined, farewell, conversed, Enough, Roomy, InPieces, LeavesLittle}
-use Rattle.dialogue.proofs.Laws.{there, no-levels, long-opening, opened-there}
+use Rattle.dialogue.proofs.Laws.{no-levels, cut-short, none-hoped, opened-there, undecided}
 use Rattle.dialogue.proofs.Stages.{waiting, opened, refused, at-stage}
 
 -- these bytes first
@@ -75,31 +75,33 @@ module _ (b rest : List ℕ) where
   announced-append : 1 ≤ length b → announced (b ++ rest) ≡ announced b
   announced-append l = List·getD-append b rest 0 0 l
 
-  levels-append : announced b < length b → levels (b ++ rest) ≡ levels b
-  unfolding levels
-  levels-append l =
-      let n = announced b in
-      rw (announced-append (omega arith), lt-ltb n (length b) l, lt-ltb n (length (b ++ rest)) (rw (length-append b rest) (omega arith)), drop-append-le 1 b rest (omega arith))
-      (take-append-le n (drop 1 b) rest (rw (length-drop 1 b) (omega arith)))
+  -- n bytes past the first k that are there
+  part-append : (n k : ℕ) → k + n ≤ length b → take n (drop k (b ++ rest)) ≡ take n (drop k b)
+  part-append n k l = rw (drop-append-le k b rest (omega arith)) (take-append-le n (drop k b) rest (rw (length-drop k b) (omega arith)))
 
-  opening-append : decided b ≡ true → opening (levels (b ++ rest)) ≡ opening (levels b)
+  came-append : header b ≤ length b → openingOf (b ++ rest) ≡ openingOf b
+  came-append come = rw (announced-append (omega arith), part-append (announced b) 1 (omega arith), part-append 16 (announced b + 1) (omega arith))
+
+  opening-append : decided b ≡ true → openingOf (b ++ rest) ≡ openingOf b
   unfolding decided
   opening-append d =
-      or-elim (ltb (announced b) (length b)) (ltb 64 (announced b)) d
-      (λ l. ap opening (levels-append (ltb-true (announced b) (length b) l)))
-      (λ y. long-opening (b ++ rest) (rw (announced-append (there b y)) y) ∙ sym (long-opening b y))
+      or-elim (leb (header b) (length b)) (ltb 0 (length b) && hopeless (announced b)) d
+      (λ y. came-append (leb-true (header b) (length b) y))
+      (λ y.
+      let k = and-true (ltb 0 (length b)) (hopeless (announced b)) y in
+      none-hoped (b ++ rest) (rw (announced-append (ltb-true 0 (length b) (k .0))) (k .1)) ∙ sym (none-hoped b (k .1)))
 
-  programmed-open : decided b ≡ true → opening (levels b) .number ≡ 0 → programmed (b ++ rest) ≡ runOf (opening (levels b) .house) (drop (header b) b ++ rest)
+  programmed-open : decided b ≡ true → openingOf b .number ≡ 0 → programmed (b ++ rest) ≡ runOf (openingOf b .house) (drop (header b) b ++ rest)
   unfolding programmed
   programmed-open d z =
       let come = opened-there b z in
       rw (opening-append d, z, announced-append (omega arith), drop-append-le (header b) b rest come)
 
-  programmed-refused : decided b ≡ true → eqb (opening (levels b) .number) 0 ≡ false → programmed (b ++ rest) ≡ (refusal (opening (levels b) .number), opening (levels b) .house)
+  programmed-refused : decided b ≡ true → eqb (openingOf b .number) 0 ≡ false → programmed (b ++ rest) ≡ (refusal (openingOf b .number), openingOf b .house)
   unfolding programmed
   programmed-refused d z = rw (opening-append d, z)
 
--- Anything may stand behind an opening that came: the levels stay, and that is what is past it
+-- Anything may stand behind an opening that came: it stays the same, and that is what is past it
 
 module _ (input rest : List ℕ) (come : header input ≤ length input) where
   abbrev front : List ℕ
@@ -111,14 +113,14 @@ module _ (input rest : List ℕ) (come : header input ≤ length input) where
   front-first : announced front ≡ announced input
   front-first = getD-take (header input) input 0 0 (omega arith)
 
-  all-levels : announced front < length front
-  all-levels = rw (front-first, front-long) (omega arith)
+  front-there : header front ≤ length front
+  front-there = rw (front-first, front-long) (omega arith)
 
-  pub levels-stay : levels (front ++ rest) ≡ levels input
-  levels-stay = levels-append front rest all-levels ∙ sym (rw (take-append-drop (header input) input) at (levels-append front (pastOpening input) all-levels))
+  pub opening-stays : openingOf (front ++ rest) ≡ openingOf input
+  opening-stays = came-append front rest front-there ∙ sym (rw (take-append-drop (header input) input) at (came-append front (pastOpening input) front-there))
 
   pub past-stays : pastOpening (front ++ rest) ≡ rest
-  past-stays = rw (announced-append front rest (omega (arith, all-levels)), front-first) (drop-at front rest (header input) front-long)
+  past-stays = rw (announced-append front rest (omega (arith, front-there)), front-first) (drop-at front rest (header input) front-long)
 
 -- WHAT IS STILL TO BE WRITTEN, with these bytes to come
 
@@ -131,13 +133,13 @@ Unfinished s b = atStage (s .stage) (decided b ≡ false) (length b < 12) (Unit 
 
 -- who waits has the house of no items
 unfoldable pub Fresh : Dialogue → Type 0
-Fresh s = atStage (s .stage) (s .house ≡ opening [] .house) (Unit {0}) (Unit {0})
+Fresh s = atStage (s .stage) (s .house ≡ opening [] [] .house) (Unit {0}) (Unit {0})
 
 pub expected-last : (s : Dialogue) (b : List ℕ) → Fresh s → Unfinished s b → (farewell (ended (s .stage)), s .house) ≡ expected s b
-unfolding expected Fresh Unfinished programmed levels runOf decided wired replies finally requests
+unfolding expected Fresh Unfinished programmed runOf wired replies finally requests
 expected-last s b e u =
     elim (at-stage (s .stage)) [
-      | waiting w ↦ rw (w, or-false (ltb (announced b) (length b)) (ltb 64 (announced b)) (rw w at u) .0, no-levels, rw w at e)
+      | waiting w ↦ rw (w, cut-short b (undecided b (rw w at u) .0), no-levels, rw w at e)
       | opened o ↦
           let short : length b < 12 = rw o at u in
           let z : length b / 12 ≡ 0 = omega arith in
@@ -151,7 +153,7 @@ pub record After (s : Dialogue) (bytes : List ℕ) (f : Fed × List ℕ) : Type 
   pub same : (future : List ℕ) → before (take (f .0 .written) (f .1)) (expected (f .0 .dialogue) (drop (f .0 .used) bytes ++ future)) ≡ expected s (bytes ++ future)
   pub fresh : Fresh s → Fresh (f .0 .dialogue)
   pub unfinished : Unfinished (f .0 .dialogue) (drop (f .0 .used) bytes)
-  pub little : length (drop (f .0 .used) bytes) ≤ 64
+  pub little : length (drop (f .0 .used) bytes) ≤ 80
 
 -- to an open dialogue, or to one that these bytes open
 after-serves : (s : Dialogue) (h : House) (k : ℕ) (bytes room : List ℕ) → k ≤ length bytes → Enough bytes room → ((future : List ℕ) → runOf h (drop k bytes ++ future) ≡ expected s (bytes ++ future)) → After s bytes (serves h k bytes room)
@@ -166,11 +168,11 @@ unfolding expected Fresh Unfinished
 after-drops s t m bytes room r e =
     record { same = λ future. rw r (e future); fresh = λ i. rw r tt; unfinished = rw r tt; little = rw (drop-length bytes) (omega arith) }
 
--- to one that waits for its levels
+-- to one that waits for its opening
 after-waiting : (s : Dialogue) (bytes room : List ℕ) → s .stage ≡ Waiting → Enough bytes room → After s bytes (fed s bytes room)
-unfolding expected Unfinished decided fed opens
+unfolding expected Unfinished fed opens
 after-waiting s bytes room w enough =
-    let o = opening (levels bytes) in
+    let o = openingOf bytes in
     elim (is (decided bytes)) [
       | inl y ↦ rw (w, y)
           (elim (is (eqb (o .number) 0)) [
@@ -179,9 +181,7 @@ after-waiting s bytes room w enough =
                 rw z (after-serves _ (o .house) (header bytes) bytes room (opened-there bytes zero) enough (λ future. sym (programmed-open bytes future y zero)))
             | inr z ↦ rw z (after-drops _ _ (o .number) bytes room refl (λ future. sym (programmed-refused bytes future y z)))
           ])
-      | inr n ↦ rw (w, n)
-          (let u = or-false (ltb (announced bytes) (length bytes)) (ltb 64 (announced bytes)) n in
-          record { same = λ future. refl; fresh = λ i. i; unfinished = n; little = omega (arith, ltb-false (announced bytes) (length bytes) (u .0), ltb-false 64 (announced bytes) (u .1)) })
+      | inr n ↦ rw (w, n) (record { same = λ future. refl; fresh = λ i. i; unfinished = n; little = undecided bytes n .1 })
     ]
 
 pub after : (s : Dialogue) (bytes room : List ℕ) → Enough bytes room → After s bytes (fed s bytes room)

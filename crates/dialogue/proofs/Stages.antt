@@ -7,13 +7,12 @@ use mathlib.Core.Logic.{inl, inr}
 use mathlib.Core.List.{List}
 use lib.Dec.{eqb}
 use Rattle.house.specs.declared.House.{House}
-use Rattle.house.specs.Opening.{opening}
 use Rattle.house.proofs.Tests.{is}
 use Rattle.dialogue.specs.declared.Fed.{Fed}
 use Rattle.dialogue.specs.declared.Dialogue.{Dialogue}
 use Rattle.dialogue.specs.declared.Stage.{Stage}
 use Rattle.dialogue.specs.declared.Stage.the-variants.{Waiting, Open, Refused}
-use Rattle.dialogue.specs.Dialogue.{decided, levels, header, atStage, waits, drops, serves, opens, fed}
+use Rattle.dialogue.specs.Dialogue.{decided, header, atStage, waits, drops, serves, opens, fed, openingOf}
 use Rattle.dialogue.proofs.Serving.{Within, serves-within}
 
 -- code that goes by the stage is in the branch of that stage: with `followed`, a proof goes through `fed` as the code does
@@ -47,8 +46,8 @@ fed-cases P s b room serving dropping waited =
       | waiting w ↦ rw w
           (elim (is (decided b)) [
             | inl y ↦ rw y
-                (elim (is (eqb (opening (levels b) .number) 0)) [
-                  | inl z ↦ rw z (serving (opening (levels b) .house) (header b))
+                (elim (is (eqb (openingOf b .number) 0)) [
+                  | inl z ↦ rw z (serving (openingOf b .house) (header b))
                   | inr z ↦ rw z (dropping _)
                 ])
             | inr n ↦ rw n (waited _)

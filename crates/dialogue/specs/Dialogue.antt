@@ -1,14 +1,16 @@
 -- A dialogue: one house, from its opening to the end of the input. "The program reads from standard input one byte n, n level
--- bytes, then requests, and writes the replies only. If opening is refused, or input ends before the levels do (13), it writes
--- one reply of that number with all else zero, and stops. An unfinished last request gets no reply."
+-- bytes", the table's 16 "after the level bytes" (CR 6), "then requests, and writes the replies only. If opening is refused, or input
+-- ends before the levels do (13)" or before the table does (CR 6: "cut short in the input, gives 13"), "it writes one reply of that
+-- number with all else zero, and stops. An unfinished last request gets no reply."
 -- The bytes come in pieces of any size. What is unfinished is not used, and is given again with what follows it.
 -- Assumes nothing.
 use Prim.Native.Nat.{ℕ, _+_, _*_}
-use mathlib.Core.Bool.{Bool, _||_, cond}
+use mathlib.Core.Bool.{Bool, _&&_, _||_, cond}
 use mathlib.Core.List.{List, [], _++_}
 use lib.ListN.{length, getD, take, drop}
-use lib.Dec.{eqb, ltb}
+use lib.Dec.{eqb, ltb, leb}
 use Rattle.house.specs.declared.House.{House}
+use Rattle.house.specs.declared.Opening.{Opening}
 use Rattle.house.specs.Opening.{opening}
 use Rattle.wire.specs.Wire.{replyBytes}
 use Rattle.desk.specs.Turn.{turned, answered}
@@ -24,17 +26,29 @@ use Rattle.dialogue.specs.declared.Stage.the-variants.{Waiting, Open, Re
 abbrev pub announced : List ℕ → ℕ
 announced bytes = getD bytes 0 0
 
--- the n levels came; or n is above 64, and refused whatever follows
-unfoldable pub decided : List ℕ → Bool
-decided bytes = ltb (announced bytes) (length bytes) || ltb 64 (announced bytes)
-
--- the n levels. "input ends before the levels do (13)": then there are none, and none are refused with 13
-unfoldable pub levels : List ℕ → List ℕ
-levels bytes = cond (ltb (announced bytes) (length bytes)) (take (announced bytes) (drop 1 bytes)) []
-
--- how many bytes an opening has: "one byte n, n level bytes"
+-- how many bytes an opening has: "one byte n, n level bytes", and the table's 16
 abbrev pub header : List ℕ → ℕ
-header bytes = announced bytes + 1
+header bytes = announced bytes + 17
+
+-- the levels and the table, as far as they came. Where input ends before they do, the table is not of 16 bytes, and that is refused
+-- with 13
+abbrev pub levels : List ℕ → List ℕ
+levels bytes = take (announced bytes) (drop 1 bytes)
+
+abbrev pub table : List ℕ → List ℕ
+table bytes = take 16 (drop (announced bytes + 1) bytes)
+
+-- what they open
+abbrev pub openingOf : List ℕ → Opening
+openingOf bytes = opening (levels bytes) (table bytes)
+
+-- "length 0 or above 64", refused whatever follows
+unfoldable pub hopeless : ℕ → Bool
+hopeless n = eqb n 0 || ltb 64 n
+
+-- all of the opening came; or n did, and is hopeless
+unfoldable pub decided : List ℕ → Bool
+decided bytes = leb (header bytes) (length bytes) || (ltb 0 (length bytes) && hopeless (announced bytes))
 
 -- "one reply of that number with all else zero"
 unfoldable pub refusal : ℕ → List ℕ
@@ -49,9 +63,9 @@ atStage (Refused n) waiting opened refused = refused
 
 -- nothing came yet
 unfoldable pub started : Dialogue
-started = record { stage = Waiting; house = opening [] .house }
+started = record { stage = Waiting; house = opening [] [] .house }
 
--- "or input ends before the levels do (13)"
+-- "or input ends before the levels do (13)", or before the table does
 abbrev pub ended : Stage → Stage
 ended s = atStage s (Refused 13) s s
 
@@ -75,7 +89,7 @@ serves h k bytes room =
 -- they have all of an opening
 unfoldable pub opens : List ℕ → List ℕ → Fed × List ℕ
 opens bytes room =
-    let o = opening (levels bytes) in
+    let o = openingOf bytes in
     cond (eqb (o .number) 0) (serves (o .house) (header bytes) bytes room)
     (drops (record { stage = Refused (o .number); house = o .house }) bytes room)
 

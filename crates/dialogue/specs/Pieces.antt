@@ -7,26 +7,26 @@ use mathlib.Core.List.{List, [], _∷_, _++_}
 use lib.ListN.{length, take, drop}
 use lib.Dec.{eqb}
 use Rattle.house.specs.declared.House.{House}
-use Rattle.house.specs.Opening.{opening}
 use Rattle.house.specs.Run.{finally, replies}
 use Rattle.desk.specs.Turn.{wholeRequests, wired}
 use Rattle.dialogue.specs.declared.Dialogue.{Dialogue}
 use Rattle.dialogue.specs.declared.Stage.{Stage}
 use Rattle.dialogue.specs.declared.Stage.the-variants.{Waiting, Open, Refused}
-use Rattle.dialogue.specs.Dialogue.{levels, header, refusal, started, ended, fed}
+use Rattle.dialogue.specs.Dialogue.{header, openingOf, refusal, started, ended, fed}
 
 -- the replies to the whole requests of these bytes, and the house after them. "An unfinished last request gets no reply."
 unfoldable pub runOf : House → List ℕ → List ℕ × House
 runOf h bytes = let qs = wholeRequests bytes in (wired (replies h qs), finally h qs)
 
--- "one byte n, n level bytes, then requests"
+-- "one byte n, n level bytes", the table, "then requests"
 abbrev pub pastOpening : List ℕ → List ℕ
 pastOpening input = drop (header input) input
 
--- "If opening is refused, or input ends before the levels do (13), it writes one reply of that number with all else zero, and stops."
+-- "If opening is refused, or input ends before the levels do (13)" or the table, "it writes one reply of that number with all else zero,
+-- and stops."
 unfoldable pub programmed : List ℕ → List ℕ × House
 programmed input =
-    let o = opening (levels input) in
+    let o = openingOf input in
     cond (eqb (o .number) 0) (runOf (o .house) (pastOpening input)) (refusal (o .number), o .house)
 
 -- a piece of input, and the reply bytes that are lent for it
@@ -67,6 +67,6 @@ Roomy s unused (p ∷ ps) =
 abbrev pub InPieces : Type 0
 InPieces = (ps : List Piece) → Roomy started [] ps → conversed started [] ps ≡ programmed (joined ps)
 
--- what is not used is little, of every dialogue and all bytes: a buffer of 65 bytes or more is never full before a read
+-- what is not used is little, of every dialogue and all bytes: a buffer of 81 bytes or more is never full before a read
 abbrev pub LeavesLittle : Type 0
-LeavesLittle = (s : Dialogue) (bytes room : List ℕ) → Enough bytes room → length (drop (fed s bytes room .0 .used) bytes) ≤ 64
+LeavesLittle = (s : Dialogue) (bytes room : List ℕ) → Enough bytes room → length (drop (fed s bytes room .0 .used) bytes) ≤ 80

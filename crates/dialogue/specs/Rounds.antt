@@ -63,7 +63,7 @@ Reads s buffer have room (r ∷ rs) =
 
 -- a buffer that holds an unfinished opening and more, and room for a reply to each request that it holds
 abbrev pub Room : List ℕ → List ℕ → Type 0
-Room buffer room = (64 < length buffer) × Enough buffer room
+Room buffer room = (80 < length buffer) × Enough buffer room
 
 -- THE STATEMENTS
 

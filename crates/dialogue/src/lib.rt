@@ -2,18 +2,18 @@
 // left with the caller, who gives it again with what follows it; so a dialogue needs no bytes of its own.
 
 ghost use mathlib.Core.Path.{_≡_};
-ghost use mathlib.Core.Bool.{true, cond};
 ghost use Prim.Native.Nat.{_+_, _≤_, _<_, min};
 ghost use lib.ListN.{length, drop};
-ghost use lib.Dec.{ltb};
-ghost use Rattle.dialogue.specs.Dialogue.{announced, decided, refusal, started, ended, serves, opens, fed, kept, heard};
+ghost use Rattle.house.specs.Opening.{opening};
+ghost use Rattle.dialogue.specs.Dialogue.{announced, openingOf, hopeless, decided, refusal, started, ended, serves, opens, fed, kept, heard};
 use desk::turn;
 use house::House;
+use house::Opening;
 use house::Reply;
 use opening::open;
 use wire::encode;
 
-// Before the levels came, after them, and after a refused opening, with its number.
+// Before the opening came, after it, and after a refused opening, with its number.
 pub enum Stage {
     Waiting,
     Open,
@@ -42,7 +42,7 @@ pub struct Heard {
 pub fn start() -> Dialogue
     ensures { λ r. ⌜ r ≡ started ⌝ }
 {
-    let opening = open(b"");
+    let opening = open(b"", b"");
     let house = opening.house;
     Dialogue {
         stage: Stage::Waiting,
@@ -83,11 +83,31 @@ fn first(bytes: &[u8]) -> usize
     bytes[0] as usize
 }
 
+// A number of levels that is refused, whatever follows it.
+fn is_hopeless(n: usize) -> bool
+    ensures { λ r. ⌜ r ≡ hopeless n ⌝ }
+{
+    (n == 0) | (64 < n)
+}
+
 fn is_decided(bytes: &[u8]) -> bool
     ensures { λ r. ⌜ r ≡ decided (now (bytes .entry)) ⌝ }
 {
     let n = first(bytes);
-    (n < bytes.len()) | (64 < n)
+    (n + 17 <= bytes.len()) | ((0 < bytes.len()) & is_hopeless(n))
+}
+
+// What is cut short is opened as no levels and no table, which gets 13 as well.
+fn open_front(bytes: &[u8]) -> Opening
+    ensures { λ r. ⌜ r ≡ openingOf (now (bytes .entry)) ⌝ }
+{
+    let n = first(bytes);
+    let past = n + 1;
+    let end = n + 17;
+    if bytes.len() < end {
+        return open(b"", b"");
+    }
+    open(&bytes[1..past], &bytes[past..end])
 }
 
 // The requests past the first k bytes.
@@ -111,24 +131,15 @@ fn serve(h: House, k: usize, bytes: &[u8], replies: &mut [u8]) -> Fed
     }
 }
 
-// A number above 64 is opened as no levels, which gets 13 as well.
-fn level_count(n: usize) -> usize
-    ensures { λ r. ⌜ r ≡ cond (ltb 64 n) 0 n ⌝ }
-{
-    if 64 < n { 0 } else { n }
-}
-
 fn open_and_serve(bytes: &[u8], replies: &mut [u8]) -> Fed
-    requires { ⌜ decided (now bytes) ≡ true ⌝ }
     ensures { λ r. ⌜ (r, now (replies .exit)) ≡ opens (now (bytes .entry)) (now (replies .entry)) ⌝ }
 {
-    let n = first(bytes);
-    let end = level_count(n) + 1;
-    let opening = open(&bytes[1..end]);
+    let opening = open_front(bytes);
     let number = opening.number;
     let house = opening.house;
     if number == 0 {
-        return serve(house, n + 1, bytes, replies);
+        let k = first(bytes) + 17;
+        return serve(house, k, bytes, replies);
     }
     Fed {
         dialogue: Dialogue {

@@ -1,6 +1,6 @@
 -- Document 01's marked examples, M1 to M12, as one table under one statement.
 -- "Items 0 and 1 at level 0, item 2 at level 2. Each starts fresh, with level-0 tickets 1 and 2 and level-2 ticket 1 open
--- unless said."
+-- unless said." The levels are in the order of "the old chain".
 -- Assumes nothing.
 use Prim.Native.Nat.{ℕ}
 use mathlib.Core.Path.{_≡_}
@@ -9,12 +9,13 @@ use Rattle.house.specs.declared.Place.{Place}
 use Rattle.house.specs.declared.Reply.{Reply}
 use Rattle.house.specs.declared.Request.{Request}
 use Rattle.house.specs.declared.Standing.the-variants.{Active}
+use Rattle.house.specs.Order.{oldChain}
 use Rattle.house.specs.Run.{Event}
-use Rattle.examples.specs.Words.{begins, reads, writes, certifies, commits, aborts, asks, readsWith, says, Example, talk, given, expected}
+use Rattle.examples.specs.Words.{begins, begun, reads, writes, certifies, commits, aborts, asks, readsWith, says, Example, talk, given, expected}
 
 -- a row of the table; one that also says which places the house then shows
 abbrev shows : List Event → Request → Reply → List (ℕ × Place) → Example
-shows before request reply places = record { levels = 0 ∷ 0 ∷ 2 ∷ []; before = before; request = request; reply = reply; places = places }
+shows before request reply places = record { levels = 0 ∷ 0 ∷ 2 ∷ []; table = oldChain; before = before; request = request; reply = reply; places = places }
 
 abbrev row : List Event → Request → Reply → Example
 row before request reply = shows before request reply []
@@ -22,10 +23,7 @@ row before request reply = shows before request reply []
 abbrev active : ℕ → ℕ → ℕ × Place
 active p t = (p, record { standing = Active; ticket = t })
 
--- a begin that is done, and what is open unless said
-abbrev begun : ℕ → ℕ → Event
-begun l t = (begins l, says 0 0 0 t 0 0)
-
+-- what is open unless said
 abbrev usual : List Event
 usual = begun 0 1 ∷ begun 0 2 ∷ begun 2 1 ∷ []
 

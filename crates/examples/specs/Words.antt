@@ -44,10 +44,15 @@ readsWith l t i v = request read l i t v
 abbrev pub says : ℕ → ℕ → ℕ → ℕ → ℕ → ℕ → Reply
 says number operation item ticket value version = record { number = number; operation = operation; item = item; ticket = ticket; value = value; version = version }
 
--- An example: from a house opened with these levels, after `before` (each request with the reply that it gets), the request
+-- a begin that is done
+abbrev pub begun : ℕ → ℕ → Event
+begun l t = (begins l, says 0 0 0 t 0 0)
+
+-- An example: from a house opened with these levels and this table, after `before` (each request with the reply that it gets), the request
 -- gets the reply, and the house then shows these places
 pub record Example : Type 0 where
   pub levels : List ℕ
+  pub table : List ℕ
   pub before : List Event
   pub request : Request
   pub reply : Reply
@@ -64,7 +69,7 @@ Report = ℕ × List Reply × List Place
 
 unfoldable pub given : Example → Report
 given x =
-    let o = opening (x .levels) in
+    let o = opening (x .levels) (x .table) in
     let asked = map (λ e. e .0) (talk x) in
     let places = finally (o .house) asked .places in
     (o .number, replies (o .house) asked, map (λ s. placeAt places (s .0)) (x .places))

@@ -6,7 +6,7 @@ use native.Mathlib.Omega.{arith}
 use mathlib.Core.Path.{_≡_, refl, sym, ap, _∙_}
 use mathlib.Core.Logic.{_≢_, inl, inr}
 use mathlib.Core.Bool.{Bool, true, false, _&&_, _||_, not, cond}
-use mathlib.Core.List.{List, [], _∷_, _++_}
+use mathlib.Core.List.{List, [], _∷_, _++_, map}
 use lib.Dec.{eqb, leb}
 use borrow.Author.Tests.{eq-eqb, ne-eqb, eqb-true, eqb-false, ltb-false, leb-false, not-true}
 use Rattle.house.specs.declared.Found.{Found}
@@ -17,8 +17,7 @@ use Rattle.house.specs.Search.{nobody, anyOf, distinct}
 use Rattle.house.specs.Checks.{foremost, someApplies, testOf, before}
 use Rattle.house.specs.House.{dominates, itemAt}
 use Rattle.house.specs.Rules.{read, write, _does_, asker, noLevel, usesItem, unusedSet, unknown, noItem, forbidden, blankSheet, stopped, untimely, wornOut, crowded, ticketless, delayed, refusals, checks, verdict}
-use Rattle.house.proofs.Tests.{is, clash, and-true, and-right-false, and-no, or-false, not-is, not-of}
-use Rattle.house.proofs.Levels.{dominates-itself}
+use Rattle.house.proofs.Tests.{is, clash, and-true, and-right-false, and-no, or-false, or-left, or-right, or-elim, not-is, not-of}
 use Rattle.house.proofs.Operations.{OperationOf, operation-of}
 
 -- LISTS OF CHECKS
@@ -74,6 +73,17 @@ first-given (x ∷ xs) d n z =
       ]
       | inr e ↦ elim (is (x .1)) [ inl y ↦ rw (e, y) (e ∙ sym (and-no (testOf n xs))) | inr y ↦ rw (e, y) (first-given xs (k .1) n z) ]
     ]
+
+-- the first check of a list that applies has one of its numbers
+pub foremost-stands : (l : List (ℕ × Bool)) → anyOf (eqb (foremost l)) (0 ∷ map (λ x. x .0) l) ≡ true
+foremost-stands [] = refl
+foremost-stands (x ∷ xs) = either (x .1) (x .0) (foremost xs) (map (λ y. y .0) xs) (foremost-stands xs)
+  where
+    either : (b : Bool) (n m : ℕ) (ns : List ℕ) → anyOf (eqb m) (0 ∷ ns) ≡ true → anyOf (eqb (cond b n m)) (0 ∷ n ∷ ns) ≡ true
+    either true n m ns e = or-right (eqb n 0) (anyOf (eqb n) (n ∷ ns)) (or-left (eqb n n) (anyOf (eqb n) ns) (eq-eqb n n refl))
+    either false n m ns e =
+        let rest = anyOf (eqb m) ns in
+        or-elim (eqb m 0) rest e (or-left (eqb m 0) (eqb m n || rest)) (λ k. or-right (eqb m 0) (eqb m n || rest) (or-right (eqb m n) rest k))
 
 -- of two lists, the second is asked where none of the first applies
 pub foremost-append : (l r : List (ℕ × Bool)) → numbered l ≡ true → foremost (l ++ r) ≡ cond (eqb (foremost l) 0) (foremost r) (foremost l)
@@ -141,13 +151,13 @@ pub item-there : (h : House) (q : Request) → usesItem q ≡ true → noItem h 
 unfolding noItem
 item-there h q u e = there (h .count) (q .item) (rw u at e)
 
--- an item that may be read or written is of a level that the asker's dominates
-pub allowed-below : (h : House) (q : Request) → usesItem q ≡ true → forbidden h q ≡ false → dominates (q .level) (itemAt (h .items) (q .item) .level) ≡ true
+-- an item that may be read or written is of a level that the asker's, which dominates itself, dominates
+pub allowed-below : (h : House) (q : Request) → dominates (h .order) (q .level) (q .level) ≡ true → usesItem q ≡ true → forbidden h q ≡ false → dominates (h .order) (q .level) (itemAt (h .items) (q .item) .level) ≡ true
 unfolding forbidden
-allowed-below h q u e =
+allowed-below h q itself u e =
     elim (is (q does read)) [
       | inl r ↦ not-is _ (rw r at e)
-      | inr n ↦ let w : q does write ≡ true = rw n at u in rw (eqb-true (itemAt (h .items) (q .item) .level) (q .level) (not-is _ (rw (n, w) at e))) (dominates-itself (q .level))
+      | inr n ↦ let w : q does write ≡ true = rw n at u in rw (eqb-true (itemAt (h .items) (q .item) .level) (q .level) (not-is _ (rw (n, w) at e))) itself
     ]
 
 -- no refusal has the number of the delay

@@ -32,7 +32,7 @@ module _ {h : House} (z : Sizes h) where
   -- Begin
   pub begun-sizes : (l me : ℕ) → Sizes (begun h l me)
   unfolding begun
-  begun-sizes l me = record { items = z .items; pending = z .pending; places = simp length-set (z .places); next = simp length-set (z .next); cells = z .cells }
+  begun-sizes l me = record { order = z .order; items = z .items; pending = z .pending; places = simp length-set (z .places); next = simp length-set (z .next); cells = z .cells }
 
   pub begun-place : (l me : ℕ) → me < 32 → placeAt (begun h l me .places) me ≡ record { standing = Active; ticket = nextAt (h .next) l }
   unfolding begun
@@ -45,12 +45,12 @@ module _ {h : House} (z : Sizes h) where
   -- Read
   pub read-sizes : (me i : ℕ) → Sizes (readBy h me i)
   unfolding readBy
-  read-sizes me i = record { items = z .items; pending = z .pending; places = z .places; next = z .next; cells = length-withMark (h .cells) (z .cells) Read me i }
+  read-sizes me i = record { order = z .order; items = z .items; pending = z .pending; places = z .places; next = z .next; cells = length-withMark (h .cells) (z .cells) Read me i }
 
   -- Write
   pub written-sizes : (me i v : ℕ) → Sizes (writtenBy h me i v)
   unfolding writtenBy
-  written-sizes me i v = record { items = z .items; pending = simp length-set (z .pending); places = z .places; next = z .next; cells = length-withMark (h .cells) (z .cells) Write me i }
+  written-sizes me i v = record { order = z .order; items = z .items; pending = simp length-set (z .pending); places = z .places; next = z .next; cells = length-withMark (h .cells) (z .cells) Write me i }
 
   pub written-pending : (me i v : ℕ) → i < 64 → pendingAt (writtenBy h me i v .pending) i ≡ v
   unfolding writtenBy
@@ -59,20 +59,20 @@ module _ {h : House} (z : Sizes h) where
   -- Certify
   pub certified-sizes : (me : ℕ) → Sizes (certifiedBy h me)
   unfolding certifiedBy
-  certified-sizes me = record { items = z .items; pending = z .pending; places = simp length-set (z .places); next = z .next; cells = length-mapCells (h .cells) (z .cells) (certifiedCell (h .cells) me) }
+  certified-sizes me = record { order = z .order; items = z .items; pending = z .pending; places = simp length-set (z .places); next = z .next; cells = length-mapCells (h .cells) (z .cells) (certifiedCell (h .order) (h .cells) me) }
 
   pub certified-place : (me : ℕ) → me < 32 → placeAt (certifiedBy h me .places) me ≡ record { standing = Certified; ticket = placeAt (h .places) me .ticket }
   unfolding certifiedBy
   certified-place me b = place-set (h .places) (z .places) me _ b
 
-  pub certified-cell : (me p i : ℕ) → p < 32 → i < 64 → cellAt (certifiedBy h me .cells) p i ≡ certifiedCell (h .cells) me p i (cellAt (h .cells) p i)
+  pub certified-cell : (me p i : ℕ) → p < 32 → i < 64 → cellAt (certifiedBy h me .cells) p i ≡ certifiedCell (h .order) (h .cells) me p i (cellAt (h .cells) p i)
   unfolding certifiedBy
-  certified-cell me p i b a = cell-mapped (h .cells) (z .cells) (certifiedCell (h .cells) me) p i b a
+  certified-cell me p i b a = cell-mapped (h .cells) (z .cells) (certifiedCell (h .order) (h .cells) me) p i b a
 
   -- Commit and abort
   pub left-sizes : (me : ℕ) → Sizes (left h me)
   unfolding left
-  left-sizes me = record { items = z .items; pending = simp length-mapFrom (z .pending); places = simp length-set (z .places); next = z .next; cells = length-mapCells (h .cells) (z .cells) (clearedCell me) }
+  left-sizes me = record { order = z .order; items = z .items; pending = simp length-mapFrom (z .pending); places = simp length-set (z .places); next = z .next; cells = length-mapCells (h .cells) (z .cells) (clearedCell me) }
 
   pub left-pending : (me i : ℕ) → i < 64 → pendingAt (left h me .pending) i ≡ droppedPending (h .cells) me i (pendingAt (h .pending) i)
   unfolding left
@@ -89,7 +89,7 @@ module _ {h : House} (z : Sizes h) where
   pub committed-sizes : (me : ℕ) → Sizes (committedBy h me)
   committed-sizes me =
       let y = left-sizes me in
-      record { items = simp length-mapFrom (z .items); pending = y .pending; places = y .places; next = y .next; cells = y .cells }
+      record { order = y .order; items = simp length-mapFrom (z .items); pending = y .pending; places = y .places; next = y .next; cells = y .cells }
 
   pub committed-item : (me i : ℕ) → i < 64 → itemAt (committedBy h me .items) i ≡ committedItem (h .cells) (h .pending) me i (itemAt (h .items) i)
   committed-item me i a = let n = z .items in getD-mapFrom (committedItem (h .cells) (h .pending) me) (h .items) i blank (omega arith)
@@ -150,7 +150,7 @@ module _ (h : House) where
 
   pub committed-fixed : (me : ℕ) → fixed (committedBy h me) ≡ fixed h
   unfolding fixed left
-  committed-fixed me = ap (λ l. (h .count, l)) (map-mapFrom-same (λ x. x .level) 0 (committedItem (h .cells) (h .pending) me) (h .items) (committed-level me))
+  committed-fixed me = ap (λ l. (h .count, h .order, l)) (map-mapFrom-same (λ x. x .level) 0 (committedItem (h .cells) (h .pending) me) (h .items) (committed-level me))
 
   pub aborted-fixed : (me : ℕ) → fixed (abortedBy h me) ≡ fixed h
   unfolding fixed left

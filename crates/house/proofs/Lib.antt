@@ -1,8 +1,8 @@
 pub mod Unfolding
 pub mod Operations
 pub mod Tests
-pub mod Levels
 pub mod Searches
+pub mod Levels
 pub mod Lists
 pub mod Branches
 pub mod Cells

@@ -1,11 +1,11 @@
 -- The parts of a house. "Levels 0 to 3", "1 to 64 items, numbered from 0", "eight places per level, 32 in all".
 -- Assumes nothing.
-use Prim.Native.Nat.{ℕ, _*_, _/_}
+use Prim.Native.Nat.{ℕ, _+_, _*_, _/_}
 use mathlib.Core.Bool.{Bool, true, false, _&&_, not}
 use mathlib.Core.List.{List, map}
 use mathlib.Core.Path.{_≡_}
 use lib.ListN.{length, getD, set}
-use lib.Dec.{eqb, leb}
+use lib.Dec.{eqb}
 use Rattle.house.specs.declared.Found.{Found}
 use Rattle.house.specs.declared.House.{House}
 use Rattle.house.specs.declared.Item.{Item}
@@ -14,12 +14,13 @@ use Rattle.house.specs.declared.Standing.{Standing}
 use Rattle.house.specs.declared.Standing.the-variants.{Free, Active, Certified}
 use Rattle.house.specs.Search.{find, findRound}
 
--- "A larger number dominates a smaller one." A level dominates itself as well
-unfoldable pub dominates : ℕ → ℕ → Bool
-dominates a b = leb b a
+-- Of the 16 bytes, "row by row", "1 says that the column's level dominates the row's" (CR 6): level a dominates level b
+unfoldable pub dominates : List ℕ → ℕ → ℕ → Bool
+dominates order a b = eqb (getD order (4 * b + a) 0) 1
 
-unfoldable pub above : ℕ → ℕ → Bool
-above a b = dominates a b && not (eqb a b)
+-- "of two levels, "above" and "below" mean strict dominance" (CR 6)
+unfoldable pub above : List ℕ → ℕ → ℕ → Bool
+above order a b = dominates order a b && not (eqb a b)
 
 -- the level of a place
 abbrev pub levelOf : ℕ → ℕ
@@ -49,26 +50,27 @@ nextAt next l = getD next l 0
 -- a house with one part changed
 
 abbrev pub withItems : House → List Item → House
-withItems h items = record { count = h .count; items = items; pending = h .pending; places = h .places; next = h .next; cells = h .cells }
+withItems h items = record { count = h .count; order = h .order; items = items; pending = h .pending; places = h .places; next = h .next; cells = h .cells }
 
 abbrev pub withPending : House → List ℕ → House
-withPending h pending = record { count = h .count; items = h .items; pending = pending; places = h .places; next = h .next; cells = h .cells }
+withPending h pending = record { count = h .count; order = h .order; items = h .items; pending = pending; places = h .places; next = h .next; cells = h .cells }
 
 abbrev pub withPlace : House → ℕ → Place → House
-withPlace h p x = record { count = h .count; items = h .items; pending = h .pending; places = set (h .places) p x; next = h .next; cells = h .cells }
+withPlace h p x = record { count = h .count; order = h .order; items = h .items; pending = h .pending; places = set (h .places) p x; next = h .next; cells = h .cells }
 
 abbrev pub withNext : House → ℕ → ℕ → House
-withNext h l t = record { count = h .count; items = h .items; pending = h .pending; places = h .places; next = set (h .next) l t; cells = h .cells }
+withNext h l t = record { count = h .count; order = h .order; items = h .items; pending = h .pending; places = h .places; next = set (h .next) l t; cells = h .cells }
 
 abbrev pub withCells : House → List ℕ → House
-withCells h cells = record { count = h .count; items = h .items; pending = h .pending; places = h .places; next = h .next; cells = cells }
+withCells h cells = record { count = h .count; order = h .order; items = h .items; pending = h .pending; places = h .places; next = h .next; cells = cells }
 
--- what an opening fixes: how many items there are, and each item's "fixed level"
-unfoldable pub fixed : House → ℕ × List ℕ
-fixed h = (h .count, map (λ x. x .level) (h .items))
+-- what an opening fixes: how many items there are, the order of the levels, and each item's "fixed level"
+unfoldable pub fixed : House → ℕ × List ℕ × List ℕ
+fixed h = (h .count, h .order, map (λ x. x .level) (h .items))
 
 -- the lists of a house are as long as the arrays they stand for
 pub record Sizes (h : House) : Type 0 where
+  pub order : length (h .order) ≡ 16
   pub items : length (h .items) ≡ 64
   pub pending : length (h .pending) ≡ 64
   pub places : length (h .places) ≡ 32

@@ -1,7 +1,7 @@
--- Opening a house. "Opening takes a list of level bytes."
+-- Opening a house. "Opening takes a list of level bytes", and "now also takes 16 bytes" (CR 6): the order of the levels.
 -- Assumes nothing.
 use Prim.Native.Nat.{ℕ}
-use mathlib.Core.Bool.{Bool, _||_, cond}
+use mathlib.Core.Bool.{Bool, _||_, not, cond}
 use mathlib.Core.List.{List, [], _∷_}
 use lib.ListN.{length, getD, replicate}
 use lib.Dec.{eqb, ltb}
@@ -10,6 +10,7 @@ use Rattle.house.specs.declared.Item.{Item}
 use Rattle.house.specs.declared.Opening.{Opening}
 use Rattle.house.specs.Search.{any, mapFrom}
 use Rattle.house.specs.House.{blank, vacant}
+use Rattle.house.specs.Order.{oldChain, disordered}
 use Rattle.house.specs.Checks.{foremost}
 
 -- "length 0 or above 64"
@@ -23,9 +24,14 @@ highAt levels i = ltb 3 (getD levels i 0)
 unfoldable pub wrongLevel : List ℕ → Bool
 wrongLevel levels = any (highAt levels) 0 (length levels)
 
--- "Checks in order: length 0 or above 64 gives 13; a byte above 3 gives 14."
-unfoldable pub openVerdict : List ℕ → ℕ
-openVerdict levels = foremost ((13, wrongLength levels) ∷ (14, wrongLevel levels) ∷ [])
+-- "a table not 16 bytes long"
+unfoldable pub wrongTable : List ℕ → Bool
+wrongTable order = not (eqb (length order) 16)
+
+-- "Checks in order: length 0 or above 64 gives 13; a byte above 3 gives 14." "A byte above 1, or a table not reflexive,
+-- antisymmetric and transitive, gives 16, after 13 and 14; a table not 16 bytes long .. gives 13" (CR 6)
+unfoldable pub openVerdict : List ℕ → List ℕ → ℕ
+openVerdict levels order = foremost ((13, wrongLength levels || wrongTable order) ∷ (14, wrongLevel levels) ∷ (16, disordered order) ∷ [])
 
 -- an item of that level: "both 32 bits, both 0 at opening"
 abbrev pub unsaved : ℕ → Item
@@ -39,11 +45,11 @@ unfoldable pub rows : List ℕ → List Item
 rows levels = mapFrom 0 (rowAt levels) (replicate 64 blank)
 
 -- nothing pending, "every place free and every next ticket 1"; all cells "are clear at opening"
-unfoldable pub opened : List ℕ → House
-opened levels = record { count = length levels; items = rows levels; pending = replicate 64 0; places = replicate 32 vacant; next = replicate 4 1; cells = replicate 2048 0 }
+unfoldable pub opened : List ℕ → List ℕ → House
+opened levels order = record { count = length levels; order = order; items = rows levels; pending = replicate 64 0; places = replicate 32 vacant; next = replicate 4 1; cells = replicate 2048 0 }
 
--- "A refused opening yields a house of no items with every place free and every next ticket 1."
-unfoldable pub opening : List ℕ → Opening
-opening levels =
-    let n = openVerdict levels in
-    record { number = n; house = cond (eqb n 0) (opened levels) (opened []) }
+-- "A refused opening yields a house of no items with every place free and every next ticket 1", and "holds the old chain" (CR 6)
+unfoldable pub opening : List ℕ → List ℕ → Opening
+opening levels order =
+    let n = openVerdict levels order in
+    record { number = n; house = cond (eqb n 0) (opened levels order) (opened [] oldChain) }

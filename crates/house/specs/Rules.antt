@@ -83,11 +83,11 @@ unknown h q = not (q does begin) && nobody (asker h q)
 unfoldable pub noItem : House → Request → Bool
 noItem h q = usesItem q && (leb (h .count) (q .item) || leb 64 (q .item))
 
--- 8: "read of an item above the level; write of an item not at the level"
+-- 8: "a read of an item whose level the asker's does not dominate" (CR 6); "write of an item not at the level"
 unfoldable pub forbidden : House → Request → Bool
 forbidden h q =
     let level = itemAt (h .items) (q .item) .level in
-    cond (q does read) (not (dominates (q .level) level))
+    cond (q does read) (not (dominates (h .order) (q .level) level))
     (cond (q does write) (not (eqb level (q .level)))
     false)
 
@@ -212,22 +212,22 @@ writtenBy h me i v = withPending (withCells h (withMark Write (h .cells) me i)) 
 
 -- Certify: "each read lock on those items held from a higher level is marked signalled". The cell c of place p on an item that
 -- `me` has written
-unfoldable pub signalledCell : ℕ → ℕ → ℕ → ℕ
-signalledCell me p c = cond (above (levelOf p) (levelOf me) && has Read c) (marked Signalled c) c
+unfoldable pub signalledCell : List ℕ → ℕ → ℕ → ℕ → ℕ
+signalledCell order me p c = cond (above order (levelOf p) (levelOf me) && has Read c) (marked Signalled c) c
 
 -- "all its write locks become certify locks"
-unfoldable pub convertedCell : ℕ → ℕ → ℕ → ℕ
-convertedCell me p c = cond (eqb p me) (marked Certify (unmarked Write c)) (signalledCell me p c)
+unfoldable pub convertedCell : List ℕ → ℕ → ℕ → ℕ → ℕ
+convertedCell order me p c = cond (eqb p me) (marked Certify (unmarked Write c)) (signalledCell order me p c)
 
 -- the cell c of place p and item i, after it
-unfoldable pub certifiedCell : List ℕ → ℕ → ℕ → ℕ → ℕ → ℕ
-certifiedCell cells me p i c = cond (holds cells Write me i) (convertedCell me p c) c
+unfoldable pub certifiedCell : List ℕ → List ℕ → ℕ → ℕ → ℕ → ℕ → ℕ
+certifiedCell order cells me p i c = cond (holds cells Write me i) (convertedCell order me p c) c
 
 -- "it is certified"
 unfoldable pub certifiedBy : House → ℕ → House
 certifiedBy h me =
     let ticket = placeAt (h .places) me .ticket in
-    withPlace (withCells h (mapCells (certifiedCell (h .cells) me) (h .cells))) me (record { standing = Certified; ticket = ticket })
+    withPlace (withCells h (mapCells (certifiedCell (h .order) (h .cells) me) (h .cells))) me (record { standing = Certified; ticket = ticket })
 
 -- Commit and abort: "Pending values of its items go to 0": of those it holds write or certify on
 unfoldable pub droppedPending : List ℕ → ℕ → ℕ → ℕ → ℕ

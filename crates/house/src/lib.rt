@@ -20,12 +20,14 @@ pub struct Place {
     pub ticket: u32,
 }
 
-// The house passes through each step by value. Of the two versions of an item the committed one stands in its row; "a pending
+// The house passes through each step by value. Its order is a table of 4 by 4 bytes, row by row, where 1 says that the column's level
+// dominates the row's. Of the two versions of an item the committed one stands in its row; "a pending
 // value, 0 when nobody has written" in a table beside it, which, being of numbers, can be lent. Place p of level l is number
 // l * 8 + p; a cell is a byte, the sum of the weights of its marks, and the cells of one place lie together, so that a
 // transaction's own 64 are scanned in one sweep.
 pub struct House {
     pub count: usize,
+    pub order: [u8; 16],
     pub items: [Item; 64],
     pub pending: [u32; 64],
     pub places: [Place; 32],

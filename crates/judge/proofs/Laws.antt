@@ -5,10 +5,10 @@ use native.Mathlib.Omega.{arith}
 use native.Mathlib.Nat.{mod-eq-of-lt}
 use mathlib.Core.Path.{_≡_, refl, sym, _∙_}
 use mathlib.Core.Logic.{_≢_, inl, inr}
-use mathlib.Core.Bool.{Bool, true, false, not, _||_}
+use mathlib.Core.Bool.{Bool, true, false, cond, not, _||_}
 use mathlib.Core.List.{List}
 use lib.Dec.{eqb, leb}
-use borrow.Author.Tests.{eq-eqb, ne-eqb, eqb-true, not-true}
+use borrow.Author.Tests.{eq-eqb, ne-eqb, eqb-true, not-true, not-false}
 use mir.Syntax.{w16, w64}
 use mir.Val.{Fits}
 use Rattle.house.proofs.Tests.{is, same, clash, refuted, and-true, and-intro}
@@ -38,6 +38,13 @@ granted r a b c e p = e ∙ rw p
 
 pub signals : (i j n m : ℕ) → i ≡ j → n ≡ m → Signals i n ≡ Signals j m
 signals i j n m p q = rw (p, q)
+
+-- a check that a call answers the other way round: the asker's level dominates the item's, or it does not
+pub allowed : (r x y : Ruling) (b t : Bool) → b ≡ t → not b ≡ false → r ≡ y → r ≡ cond (not t) x y
+allowed r x y b t s n e = rw (sym s ∙ not-false b n) e
+
+pub forbidden : (r x y : Ruling) (b t : Bool) → b ≡ t → not b ≡ true → r ≡ x → r ≡ cond (not t) x y
+forbidden r x y b t s n e = rw (sym s ∙ not-true b n) e
 
 -- the item is one of the 64
 pub listed : (b : Bool) (count i : ℕ) → b ≡ (leb count i || leb 64 i) → b ≡ false → i < 64

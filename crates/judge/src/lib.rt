@@ -4,10 +4,10 @@
 mod scans;
 
 ghost use mathlib.Core.Path.{_≡_};
-ghost use mathlib.Core.Bool.{_||_, not};
+ghost use mathlib.Core.Bool.{_||_};
 ghost use Prim.Native.Nat.{_+_, _*_, _<_};
 ghost use lib.Dec.{leb};
-ghost use Rattle.house.specs.House.{dominates, isActive, isCertified, vacancy};
+ghost use Rattle.house.specs.House.{isActive, isCertified, vacancy};
 ghost use Rattle.house.specs.Rules.{noOperation, noLevel, unusedSet, readAnswer, askAnswer};
 ghost use Rattle.ruling.specs.declared.Ruling.the-variants.{Grant};
 ghost use Rattle.ruling.specs.Judged.{Judged, beginRuled, readRuled, writeRuled, certifyRuled, commitRuled, knownRuled};
@@ -18,6 +18,7 @@ use house::Mark;
 use house::Place;
 use house::Request;
 use house::Standing;
+use parts::dominates;
 use parts::grow;
 use places::lookup;
 use places::lowest_free;
@@ -88,12 +89,6 @@ fn lacks_item(count: usize, i: usize) -> bool
     (count <= i) | (64 <= i)
 }
 
-fn does_not_dominate(level: u8, item: u8) -> bool
-    ensures { λ r. ⌜ r ≡ not (dominates level item) ⌝ }
-{
-    !(item <= level)
-}
-
 fn answer_read(cells: &[u8; 2048], x: Item, pending: u32, me: usize, i: usize) -> Answer
     requires { ⌜ (me < 32) × (i < 64) ⌝ }
     ensures { λ r. ⌜ r ≡ readAnswer (now (cells .entry)) x pending me i ⌝ }
@@ -136,6 +131,7 @@ fn judge_read(case: Case, cells: &[u8; 2048]) -> Ruling
     ensures { λ r. ⌜ r ≡ readRuled case (now (cells .entry)) ⌝ }
 {
     let q = case.request;
+    let order = case.order;
     let x = case.row;
     let seat = case.seat;
     let standing = seat.standing;
@@ -144,7 +140,7 @@ fn judge_read(case: Case, cells: &[u8; 2048]) -> Ruling
     if lacks_item(case.count, i) {
         return Ruling::Refuse(7);
     }
-    if does_not_dominate(q.level, x.level) {
+    if !dominates(order, q.level, x.level) {
         return Ruling::Refuse(8);
     }
     if is_signalled(cells, reader) {
@@ -270,12 +266,14 @@ pub fn judge(view: View, cells: &[u8; 2048], q: Request) -> Ruling
         return Ruling::Refuse(6);
     };
     let seat = eight[k];
+    let order = view.order;
     let row = view.row;
     let first = level * 8;
     let me = first + k;
     let case = Case {
         request: q,
         count: view.count,
+        order,
         row,
         pending: view.pending,
         me,

@@ -1,26 +1,41 @@
 -- What an opening comes to, from what its calls promise.
 -- Assumes nothing.
 use Prim.Native.Nat.{ℕ}
-use mathlib.Core.Path.{_≡_, sym}
-use mathlib.Core.Logic.{_≢_}
-use mathlib.Core.Bool.{Bool}
+use native.Mathlib.Omega.{arith}
+use mathlib.Core.Path.{_≡_, sym, _∙_}
+use mathlib.Core.Logic.{_≢_, inl, inr}
+use mathlib.Core.Bool.{Bool, false, _||_}
 use mathlib.Core.List.{List, [], _∷_}
-use borrow.Author.Tests.{eq-eqb, ne-eqb}
+use lib.ListN.{length}
+use borrow.Author.Tests.{eqb-true, eq-eqb, ne-eqb}
 use Rattle.house.specs.declared.House.{House}
 use Rattle.house.specs.Checks.{foremost}
-use Rattle.house.specs.Opening.{wrongLength, wrongLevel, openVerdict, opened, opening}
+use Rattle.house.specs.Order.{oldChain, disordered}
+use Rattle.house.specs.Opening.{wrongLength, wrongLevel, wrongTable, openVerdict, opened, opening}
+use Rattle.house.proofs.Tests.{is, or-false, not-is}
 
--- the number that was given is the definition's
-pub numbered : (levels : List ℕ) (n : ℕ) (size level : Bool) → size ≡ wrongLength levels → level ≡ wrongLevel levels → n ≡ foremost ((13, size) ∷ (14, level) ∷ []) → n ≡ openVerdict levels
-unfolding openVerdict
-numbered levels n size level p q e = rw (sym p, sym q) e
+-- `order` is what was made of the table: the table, if it has 16 bytes
+module _ (levels table order : List ℕ) (made : length table ≡ 16 → order ≡ table) where
+  same : (wrongLength levels || wrongTable table) ≡ false → order ≡ table
+  unfolding wrongTable
+  same e = made (eqb-true (length table) 16 (not-is _ (or-false (wrongLength levels) (wrongTable table) e .1)))
 
--- any number but 0 goes with the house of no items
-module _ (levels : List ℕ) (n : ℕ) (h : House) (e : n ≡ openVerdict levels) where
-  pub refused : n ≢ 0 → h ≡ opened [] → record { number = n; house = h } ≡ opening levels
-  unfolding opening
-  refused k p = rw (sym e, ne-eqb n 0 k, p)
+  -- the number that was given is the definition's
+  pub numbered : (n : ℕ) (long short level wrong : Bool) → long ≡ wrongLength levels → short ≡ wrongTable table → level ≡ wrongLevel levels → wrong ≡ disordered order → n ≡ foremost ((13, long || short) ∷ (14, level) ∷ (16, wrong) ∷ []) → n ≡ openVerdict levels table
+  unfolding openVerdict
+  numbered n long short level wrong p q r s e =
+      (rw (p, q, r, s) at e)
+      ∙ elim (is (wrongLength levels || wrongTable table)) [ inl y ↦ rw y | inr y ↦ rw (same y) ]
 
-  pub accepted : n ≡ 0 → h ≡ opened levels → record { number = n; house = h } ≡ opening levels
-  unfolding opening
-  accepted k p = rw (sym e, eq-eqb n 0 k, p)
+  pub accepted : (n : ℕ) (h : House) → n ≡ openVerdict levels table → n ≡ 0 → h ≡ opened levels order → record { number = n; house = h } ≡ opening levels table
+  unfolding opening openVerdict
+  accepted n h e k p =
+      elim (is (wrongLength levels || wrongTable table)) [
+        | inl y ↦ absurd (omega (arith, rw y at e))
+        | inr y ↦ rw (sym e, eq-eqb n 0 k, p, same y)
+      ]
+
+-- any number but 0 goes with the house of no items, which holds the old chain
+pub refused : (levels table chain : List ℕ) (n : ℕ) (h : House) → n ≡ openVerdict levels table → n ≢ 0 → chain ≡ oldChain → h ≡ opened [] chain → record { number = n; house = h } ≡ opening levels table
+unfolding opening
+refused levels table chain n h e k c p = rw (sym e, ne-eqb n 0 k, p, c)

@@ -8,7 +8,7 @@ ghost use Prim.Native.Nat.{_%_};
 ghost use Rattle.house.specs.declared.Answer.the-variants.{Delayed};
 ghost use Rattle.house.specs.Search.{any};
 ghost use Rattle.house.specs.Cell.{weight, has, marked, unmarked, holds};
-ghost use Rattle.house.specs.House.{levelOf};
+ghost use Rattle.house.specs.House.{dominates, levelOf};
 ghost use Rattle.house.specs.Rules.{grown, ticketAfter, said, replied};
 use house::Answer;
 use house::Mark;
@@ -46,6 +46,14 @@ pub fn without_mark(m: Mark, c: u8) -> u8
     ensures { λ r. ⌜ r ≡ unmarked m c ⌝ }
 {
     if has_mark(m, c) { c - weigh(m) } else { c }
+}
+
+// Level a dominates level b. Past the table's end nothing is dominated.
+pub fn dominates(order: [u8; 16], a: u8, b: u8) -> bool
+    ensures { λ r. ⌜ r ≡ dominates order a b ⌝ }
+{
+    let n = 4 * (b as usize) + (a as usize);
+    if n < 16 { order[n] == 1 } else { false }
 }
 
 // The transaction at place `me`, modulo 32, has the mark on some item. Without a way out of its loop the scan is compiled to a few

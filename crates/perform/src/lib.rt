@@ -51,7 +51,10 @@ pub fn perform(h: House, change: Change) -> House
             h.pending[i] = value;
         }
         Change::Certify(me) => {
-            certify_cells(&mut h.cells, me);
+            // The order is lent where it lies, and the cells as a copy: the other way round every done request copies the house once more.
+            let mut cells = h.cells;
+            certify_cells(&mut cells, &h.order, me);
+            h.cells = cells;
             let place = h.places[me];
             let seat = certified(place);
             h.places[me] = seat;

@@ -12,12 +12,12 @@ use desk::turn_in_place;
 use maps::read_map;
 use opening::open;
 
-// The number of an opening: 0, 13 or 14.
+// The number of an opening: 0, 13, 14 or 16.
 #[no_mangle]
-pub extern "C" fn desk_fresh_open(levels: &[u8]) -> u8
-    ensures { λ r. ⌜ r ≡ opening (now (levels .entry)) .number ⌝ }
+pub extern "C" fn desk_fresh_open(levels: &[u8], table: &[u8]) -> u8
+    ensures { λ r. ⌜ r ≡ opening (now (levels .entry)) (now (table .entry)) .number ⌝ }
 {
-    let opened = open(levels);
+    let opened = open(levels, table);
     opened.number
 }
 
@@ -26,14 +26,16 @@ pub extern "C" fn desk_fresh_open(levels: &[u8]) -> u8
 #[no_mangle]
 pub extern "C" fn desk_fresh_turn(
     levels: &[u8],
+    table: &[u8],
     requests: &[u8],
     replies: &mut [u8],
     most: usize,
 ) -> usize
-    ensures { λ r. ⌜ (r ≡ turned (opening (now (levels .entry)) .house) (now (requests .entry)) (now (replies .entry)) most .count)
-        × (now (replies .exit) ≡ answered (opening (now (levels .entry)) .house) (now (requests .entry)) (now (replies .entry)) most) ⌝ }
+    ensures { λ r. ⌜ (let opened = opening (now (levels .entry)) (now (table .entry)) .house in
+        (r ≡ turned opened (now (requests .entry)) (now (replies .entry)) most .count)
+        × (now (replies .exit) ≡ answered opened (now (requests .entry)) (now (replies .entry)) most)) ⌝ }
 {
-    let opened = open(levels);
+    let opened = open(levels, table);
     let house = opened.house;
     let served = turn(house, requests, replies, most);
     served.count
@@ -43,14 +45,16 @@ pub extern "C" fn desk_fresh_turn(
 #[no_mangle]
 pub extern "C" fn desk_fresh_turn_in_place(
     levels: &[u8],
+    table: &[u8],
     requests: &[u8],
     replies: &mut [u8],
     most: usize,
 ) -> usize
-    ensures { λ r. ⌜ (r ≡ turned (opening (now (levels .entry)) .house) (now (requests .entry)) (now (replies .entry)) most .count)
-        × (now (replies .exit) ≡ answered (opening (now (levels .entry)) .house) (now (requests .entry)) (now (replies .entry)) most) ⌝ }
+    ensures { λ r. ⌜ (let opened = opening (now (levels .entry)) (now (table .entry)) .house in
+        (r ≡ turned opened (now (requests .entry)) (now (replies .entry)) most .count)
+        × (now (replies .exit) ≡ answered opened (now (requests .entry)) (now (replies .entry)) most)) ⌝ }
 {
-    let opened = open(levels);
+    let opened = open(levels, table);
     let house = opened.house;
     let served = turn_in_place(house, requests, replies, most);
     served.count
@@ -62,6 +66,7 @@ pub extern "C" fn desk_fresh_turn_in_place(
 #[no_mangle]
 pub extern "C" fn desk_fresh_map(
     levels: &[u8],
+    table: &[u8],
     before: &[u8],
     earlier: &mut [u8],
     level: u8,
@@ -71,7 +76,7 @@ pub extern "C" fn desk_fresh_map(
     after: &[u8],
     later: &mut [u8],
 ) -> usize
-    ensures { λ r. ⌜ (let opened = opening (now (levels .entry)) .house in
+    ensures { λ r. ⌜ (let opened = opening (now (levels .entry)) (now (table .entry)) .house in
         let served = turned opened (now (before .entry)) (now (earlier .entry)) (length (now (before .entry))) in
         let map = mapped (served .house) level ticket (now (items .entry)) (now (replies .entry)) in
         (r ≡ map .count)
@@ -79,7 +84,7 @@ pub extern "C" fn desk_fresh_map(
         × (now (replies .exit) ≡ filled (served .house) level ticket (now (items .entry)) (now (replies .entry)))
         × (now (later .exit) ≡ answered (map .house) (now (after .entry)) (now (later .entry)) (length (now (after .entry))))) ⌝ }
 {
-    let opened = open(levels);
+    let opened = open(levels, table);
     let house = opened.house;
     let served = turn_in_place(house, before, earlier, before.len());
     let house = served.house;

@@ -1,5 +1,5 @@
 pub mod Alike
-pub mod Above
+pub mod Unseen
 pub mod Numbers
 pub mod Step
 pub mod Quiet

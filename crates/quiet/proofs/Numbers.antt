@@ -1,5 +1,5 @@
--- Two houses that are alike up to k refuse a request of a level up to k alike, and the same one holds what it asks for: each test looks only
--- at what is alike. The law of the house is needed for the holder alone.
+-- Two houses that are alike for k refuse a request of a level that k dominates alike, and the same one holds what it asks for: each test
+-- looks only at what is alike. Of what a house keeps, the tests need the laws of the order alone.
 -- Assumes nothing.
 use Prim.Native.Nat.{ℕ, _*_, _<_}
 use native.Mathlib.Omega.{arith}
@@ -24,11 +24,13 @@ use Rattle.house.proofs.Tests.{is, same, clash, refuted, and-true, or-false, or
 use Rattle.house.proofs.Searches.{scan-same, round-same, first-same}
 use Rattle.house.proofs.Holders.{hinders-claims, holder-at}
 use Rattle.house.proofs.Places.{seek-at}
-use Rattle.house.proofs.Levels.{dominates-on}
+use Rattle.house.proofs.Levels.{dominated-low, dominates-on}
 use Rattle.house.proofs.Checks.{Clear, level-there, item-there, allowed-below}
+use Rattle.reach.specs.Kept.{Kept}
 use Rattle.reach.proofs.Law.{held, held-write, held-certify, Law, claimed-below, same-count}
-use Rattle.quiet.specs.Alike.{stays, Alike}
-use Rattle.quiet.proofs.Alike.{level-alike}
+use Rattle.reach.proofs.Kept.{kept-law}
+use Rattle.quiet.specs.Alike.{Alike}
+use Rattle.quiet.proofs.Alike.{order-alike, level-alike}
 
 -- two lists of checks that agree as far as they are read: those behind a test are looked at where it does not apply
 data Agree : List (ℕ × Bool) → List (ℕ × Bool) → Type 0 where
@@ -41,7 +43,7 @@ agreed (check n {a} e f) = elim (is a) [ inl t ↦ rw (t, sym e ∙ t) | inr t �
 
 module _ (k : ℕ) {h g : House} (A : Alike k h g) where
   -- the two searches over the places of a level
-  module _ (l : ℕ) (b : l < 4) (d : dominates k l ≡ true) where
+  module _ (l : ℕ) (b : l < 4) (d : dominates (h .order) k l ≡ true) where
     place-alike : (p : ℕ) → levelOf p ≡ l → placeAt (h .places) p ≡ placeAt (g .places) p
     place-alike p e = A .places p (omega arith) (rw e d)
 
@@ -53,7 +55,7 @@ module _ (k : ℕ) {h g : House} (A : Alike k h g) where
     unfolding vacancy freeAt
     vacancy-alike = scan-same _ _ _ _ (l * 8) 8 (λ p x y. rw (place-alike p (omega arith)))
 
-  module _ (me : ℕ) (m : me < 32) (d : dominates k (levelOf me) ≡ true) where
+  module _ (me : ℕ) (m : me < 32) (d : dominates (h .order) k (levelOf me) ≡ true) where
     pub mark-alike : (n : Mark) (i : ℕ) → i < 64 → holds (h .cells) n me i ≡ holds (g .cells) n me i
     unfolding holds
     mark-alike n i a = ap (has n) (A .cells me i m a d)
@@ -76,17 +78,19 @@ module _ (k : ℕ) {h g : House} (A : Alike k h g) where
     unfolding wants
     wants-alike q i a = ap (λ w. cond (usesItem q) (eqb i (q .item)) (q does certify && w)) (mark-alike Write i a)
 
-  module _ (q : Request) (d : stays k q ≡ true) where
-    -- an item that may be read or written is of a level up to k
-    pub item-seen : usesItem q ≡ true → forbidden h q ≡ false → dominates k (itemAt (h .items) (q .item) .level) ≡ true
-    item-seen u e = dominates-on k (q .level) _ d (allowed-below h q u e)
+  module _ (four : k < 4) (K : Kept h) (q : Request) (d : dominates (h .order) k (q .level) ≡ true) where
+    -- an item that may be read or written is of a level that k dominates
+    pub item-seen : usesItem q ≡ true → forbidden h q ≡ false → dominates (h .order) k (itemAt (h .items) (q .item) .level) ≡ true
+    item-seen u e =
+        let z = K .sizes .order in
+        dominates-on (K .order) z k (q .level) _ four d (allowed-below h q (K .order .reflexive (q .level) (dominated-low (h .order) z k (q .level) d)) u e)
 
     module _ (b : q .level < 4) where
       pub asker-alike : asker h q ≡ asker g q
       asker-alike = seek-alike (q .level) b d (q .ticket)
 
-      -- what is asked of the asker is asked of one at a level up to k
-      by-asker : {X : Type 0} (x y : ℕ → X) (z : X) → ((me : ℕ) → me < 32 → dominates k (levelOf me) ≡ true → x me ≡ y me) → ifFound (asker h q) x z ≡ ifFound (asker g q) y z
+      -- what is asked of the asker is asked of one at a level that k dominates
+      by-asker : {X : Type 0} (x y : ℕ → X) (z : X) → ((me : ℕ) → me < 32 → dominates (h .order) k (levelOf me) ≡ true → x me ≡ y me) → ifFound (asker h q) x z ≡ ifFound (asker g q) y z
       by-asker x y z e = either (asker h q) refl ∙ ap (λ who. ifFound who y z) asker-alike
         where
           either : (who : Found) → asker h q ≡ who → ifFound who x z ≡ ifFound who y z
@@ -104,7 +108,7 @@ module _ (k : ℕ) {h g : House} (A : Alike k h g) where
 
       forbidden-alike : forbidden h q ≡ forbidden g q
       unfolding forbidden
-      forbidden-alike = rw (level-alike A (q .item))
+      forbidden-alike = rw (order-alike A, level-alike A (q .item))
 
       stopped-alike : stopped h q ≡ stopped g q
       unfolding stopped
@@ -153,31 +157,31 @@ module _ (k : ℕ) {h g : House} (A : Alike k h g) where
     refusals-alike = agreed refusals-agree
 
   -- and the holder
-  module _ (L : Law h) (M : Law g) where
-    -- on an item of a level up to k nobody above k has a write or certify lock: those are at the item's level
-    module _ (m : Mark) (writes : (c : ℕ) → has m c ≡ true → held c ≡ true) (i : ℕ) (a : i < 64) (d : dominates k (itemAt (h .items) i .level) ≡ true) where
-      unheld : {f : House} → Law f → itemAt (h .items) i .level ≡ itemAt (f .items) i .level → (p : ℕ) → p < 32 → dominates k (levelOf p) ≡ false → has m (cellAt (f .cells) p i) ≡ false
+  module _ (four : k < 4) (K : Kept h) (J : Kept g) where
+    -- on an item of a level that k dominates nobody else has a write or certify lock: those are at the item's level
+    module _ (m : Mark) (writes : (c : ℕ) → has m c ≡ true → held c ≡ true) (i : ℕ) (a : i < 64) (d : dominates (h .order) k (itemAt (h .items) i .level) ≡ true) where
+      unheld : {f : House} → Law f → itemAt (h .items) i .level ≡ itemAt (f .items) i .level → (p : ℕ) → p < 32 → dominates (h .order) k (levelOf p) ≡ false → has m (cellAt (f .cells) p i) ≡ false
       unheld {f} N e p b n = refuted _ (λ y. clash (rw (e, N .cells p i b a .owned (writes _ y)) at d) n)
 
       held-alike : (p : ℕ) → p < 32 → has m (cellAt (h .cells) p i) ≡ has m (cellAt (g .cells) p i)
       held-alike p b =
-          elim (is (dominates k (levelOf p))) [
+          elim (is (dominates (h .order) k (levelOf p))) [
             | inl y ↦ ap (has m) (A .cells p i b a y)
-            | inr n ↦ unheld L refl p b n ∙ sym (unheld M (level-alike A i) p b n)
+            | inr n ↦ unheld (kept-law K) refl p b n ∙ sym (unheld (kept-law J) (level-alike A i) p b n)
           ]
 
       other-alike : (me p : ℕ) → p < 32 → anotherHolds (h .cells) m me i p ≡ anotherHolds (g .cells) m me i p
       unfolding anotherHolds holds
       other-alike me p b = ap (λ y. not (eqb p me) && y) (held-alike p b)
 
-    module _ (q : Request) (d : stays k q ≡ true) where
-      -- a transaction of a level up to k asks, and what it asks for is, of a read and a write, on an item that may be seen
-      module _ (c : Clear h q) (me : ℕ) (m : me < 32) (low : dominates k (levelOf me) ≡ true) where
-        wanted-seen : (i : ℕ) → wants (h .cells) q me i ≡ true → usesItem q ≡ true → dominates k (itemAt (h .items) i .level) ≡ true
+    module _ (q : Request) (d : dominates (h .order) k (q .level) ≡ true) where
+      -- a transaction of a level that k dominates asks, and what it asks for is, of a read and a write, on an item that may be seen
+      module _ (c : Clear h q) (me : ℕ) (m : me < 32) (low : dominates (h .order) k (levelOf me) ≡ true) where
+        wanted-seen : (i : ℕ) → wants (h .cells) q me i ≡ true → usesItem q ≡ true → dominates (h .order) k (itemAt (h .items) i .level) ≡ true
         unfolding wants
-        wanted-seen i w u = rw (eqb-true i (q .item) (rw u at w)) (item-seen q d u (c .allowed))
+        wanted-seen i w u = rw (eqb-true i (q .item) (rw u at w)) (item-seen four K q d u (c .allowed))
 
-        -- who stands in its way is the same, and at a level up to k
+        -- who stands in its way is the same, and at a level that k dominates
         module _ (i p : ℕ) (a : i < 64) (b : p < 32) (w : wants (h .cells) q me i ≡ true) where
           hinders-alike : hinders (h .cells) (q .operation) me i p ≡ hinders (g .cells) (q .operation) me i p
           unfolding hinders anotherClaims
@@ -188,11 +192,11 @@ module _ (k : ℕ) {h g : House} (A : Alike k h g) where
               ]
 
           -- (as `holder-below` of reach; CR 3 does without it, so that edits of the rules which both notice can be tried on CR 3 alone)
-          hinders-seen : hinders (h .cells) (q .operation) me i p ≡ true → dominates k (levelOf p) ≡ true
+          hinders-seen : hinders (h .cells) (q .operation) me i p ≡ true → dominates (h .order) k (levelOf p) ≡ true
           unfolding hinders peerReads
           hinders-seen y =
               elim (is (usesItem q)) [
-                | inl u ↦ claimed-below L k me p i b a (wanted-seen i w u) (hinders-claims (h .cells) q me i p u y)
+                | inl u ↦ claimed-below (kept-law K) k me p i b a (wanted-seen i w u) (hinders-claims (h .cells) q me i p u y)
                 | inr n ↦
                     let none = or-false (q does read) (q does write) n in
                     let l : levelOf p ≡ levelOf me = eqb-true _ _ (and-true (eqb (levelOf p) (levelOf me)) _ (rw (none .0, none .1) at y) .0) in
@@ -213,9 +217,9 @@ module _ (k : ℕ) {h g : House} (A : Alike k h g) where
         conflict-alike = first-same _ _ 0 64 (λ i x y. on-alike i (omega arith))
 
       pub holder-alike : Clear h q → holder h q ≡ holder g q
-      holder-alike c = by-asker q d (c .level) (conflict (h .cells) q) (conflict (g .cells) q) Nobody (conflict-alike c)
+      holder-alike c = by-asker four K q d (c .level) (conflict (h .cells) q) (conflict (g .cells) q) Nobody (conflict-alike c)
 
-      pub holder-seen : Clear h q → (p : ℕ) → holder h q ≡ At p → (p < 32) × (dominates k (levelOf p) ≡ true)
+      pub holder-seen : Clear h q → (p : ℕ) → holder h q ≡ At p → (p < 32) × (dominates (h .order) k (levelOf p) ≡ true)
       holder-seen c p e =
           let w = holder-at h q p e in
           let H = w .2 in

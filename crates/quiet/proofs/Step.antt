@@ -1,9 +1,11 @@
--- Two houses that are alike up to k answer a request of a level up to k alike, and stay alike: each effect looks only at what is alike.
+-- Two houses that are alike for k answer a request of a level that k dominates alike, and stay alike: each effect looks only at what is
+-- alike.
 -- Assumes nothing.
 use Prim.Native.Nat.{ℕ, _≤_, _<_}
 use mathlib.Core.Path.{_≡_, refl, sym, ap, ap₂, _∙_}
 use mathlib.Core.Logic.{_≢_, inl, inr}
-use mathlib.Core.Bool.{Bool, true, false, cond}
+use mathlib.Core.Bool.{Bool, true, false, not, cond}
+use lib.Dec.{ltb}
 use Rattle.house.specs.declared.Answer.the-variants.{Refused, Delayed, Ticket, Signals}
 use Rattle.house.specs.declared.Found.{Found}
 use Rattle.house.specs.declared.Found.the-variants.{At, Nobody}
@@ -18,16 +20,18 @@ use Rattle.house.specs.Cell.{marked, cellAt, withMark, holds, firstSignalled, c
 use Rattle.house.specs.House.{fixed, dominates, levelOf, itemAt, pendingAt, placeAt, vacancy}
 use Rattle.house.specs.Checks.{foremost}
 use Rattle.house.specs.Rules.{begin, read, write, certify, commit, abort, _does_, asker, usesItem, ticketAfter, begun, readBy, readAnswer, readFor, writtenBy, certifiedCell, certifiedBy, droppedPending, clearedCell, left, committedItem, committedBy, askAnswer, replied, served, performed, holder, refusals, named, stepped}
-use Rattle.house.proofs.Tests.{same, or-left, or-right}
+use Rattle.house.proofs.Tests.{same, and-true, or-left, or-right}
 use Rattle.house.proofs.Searches.{scan-same}
 use Rattle.house.proofs.Cells.{cell-here, cell-elsewhere}
 use Rattle.house.proofs.Checks.{Clear, clear, item-there}
 use Rattle.house.proofs.Steps.{refused-is, waits-is, free-is}
 use Rattle.house.proofs.Places.{seek-at, vacancy-at}
 use Rattle.house.proofs.Effects.{begun-place, begun-next, written-pending, certified-place, certified-cell, left-pending, left-place, left-cell, committed-item, begun-place-other, begun-next-other, written-pending-other, certified-place-other, left-place-other, committed-fixed}
+use Rattle.reach.specs.Kept.{Kept}
 use Rattle.reach.proofs.Law.{Law, same-level}
 use Rattle.reach.proofs.Kept.{kept-law}
-use Rattle.quiet.specs.Alike.{stays, Alike, AnsweredAlike}
+use Rattle.quiet.specs.Alike.{Alike, AnsweredAlike}
+use Rattle.quiet.proofs.Alike.{order-alike}
 use Rattle.quiet.proofs.Numbers.{vacancy-alike, mark-alike, item-seen, asker-alike, refusals-alike, holder-alike, holder-seen}
 
 -- two outcomes: the same reply, and houses that are alike
@@ -47,11 +51,11 @@ module _ (k : ℕ) {h g : House} (L : Law h) (M : Law g) (A : Alike k h g) where
   places-alike : (h′ g′ : House) (me : ℕ) → placeAt (h′ .places) me ≡ placeAt (g′ .places) me
       → ((p : ℕ) → p ≢ me → placeAt (h′ .places) p ≡ placeAt (h .places) p)
       → ((p : ℕ) → p ≢ me → placeAt (g′ .places) p ≡ placeAt (g .places) p)
-      → (p : ℕ) → p < 32 → dominates k (levelOf p) ≡ true → placeAt (h′ .places) p ≡ placeAt (g′ .places) p
+      → (p : ℕ) → p < 32 → dominates (h .order) k (levelOf p) ≡ true → placeAt (h′ .places) p ≡ placeAt (g′ .places) p
   places-alike h′ g′ me e x y p b d = elim (same p me) [ inl z ↦ rw z e | inr n ↦ x p n ∙ A .places p b d ∙ sym (y p n) ]
 
   -- Begin
-  begin-alike : (l me : ℕ) → l < 4 → me < 32 → dominates k l ≡ true → Alike k (begun h l me) (begun g l me)
+  begin-alike : (l me : ℕ) → l < 4 → me < 32 → dominates (h .order) k l ≡ true → Alike k (begun h l me) (begun g l me)
   unfolding fixed begun
   begin-alike l me b m d =
       let t = A .tickets l b d in
@@ -67,13 +71,13 @@ module _ (k : ℕ) {h g : House} (L : Law h) (M : Law g) (A : Alike k h g) where
         cells = A .cells;
       }
 
-  -- a change by a transaction of a level up to k
-  module _ (me : ℕ) (m : me < 32) (d : dominates k (levelOf me) ≡ true) where
+  -- a change by a transaction of a level that k dominates
+  module _ (me : ℕ) (m : me < 32) (d : dominates (h .order) k (levelOf me) ≡ true) where
     mine : (n : Mark) (i : ℕ) → i < 64 → holds (h .cells) n me i ≡ holds (g .cells) n me i
     mine = mark-alike k A me m d
 
     -- one of its cells marked
-    cells-alike : (n : Mark) (i : ℕ) → i < 64 → (p j : ℕ) → p < 32 → j < 64 → dominates k (levelOf p) ≡ true → cellAt (withMark n (h .cells) me i) p j ≡ cellAt (withMark n (g .cells) me i) p j
+    cells-alike : (n : Mark) (i : ℕ) → i < 64 → (p j : ℕ) → p < 32 → j < 64 → dominates (h .order) k (levelOf p) ≡ true → cellAt (withMark n (h .cells) me i) p j ≡ cellAt (withMark n (g .cells) me i) p j
     cells-alike n i a p j b c x =
         elim (same p me) [
           | inl e ↦ elim (same j i) [
@@ -122,7 +126,7 @@ module _ (k : ℕ) {h g : House} (L : Law h) (M : Law g) (A : Alike k h g) where
           items = A .items;
           places = places-alike (certifiedBy h me) (certifiedBy g me) me (certified-place (L .sizes) me m ∙ rw (A .places me m d) (sym (certified-place (M .sizes) me m))) (certified-place-other h me) (certified-place-other g me);
           tickets = A .tickets;
-          cells = λ p i b a x. certified-cell (L .sizes) me p i b a ∙ rw (A .cells p i b a x, mine Write i a) (sym (certified-cell (M .sizes) me p i b a));
+          cells = λ p i b a x. certified-cell (L .sizes) me p i b a ∙ rw (A .cells p i b a x, mine Write i a, order-alike A) (sym (certified-cell (M .sizes) me p i b a));
         }
 
     dropped-alike : (i : ℕ) → i < 64 → pendingAt (h .pending) i ≡ pendingAt (g .pending) i → pendingAt (left h me .pending) i ≡ pendingAt (left g me .pending) i
@@ -142,7 +146,7 @@ module _ (k : ℕ) {h g : House} (L : Law h) (M : Law g) (A : Alike k h g) where
 
     -- a commit is an abort, but for the rows that it holds certify on
     commit-alike : Alike k (committedBy h me) (committedBy g me)
-    unfolding committedItem
+    unfolding committedItem left
     commit-alike =
         let B = abort-alike in
         record {
@@ -157,7 +161,7 @@ module _ (k : ℕ) {h g : House} (L : Law h) (M : Law g) (A : Alike k h g) where
         }
 
     -- what a read and an ask are answered
-    pair-alike : (i : ℕ) → i < 64 → dominates k (itemAt (h .items) i .level) ≡ true → readFor h me i ≡ readFor g me i
+    pair-alike : (i : ℕ) → i < 64 → dominates (h .order) k (itemAt (h .items) i .level) ≡ true → readFor h me i ≡ readFor g me i
     unfolding readAnswer
     pair-alike i a low = let y = A .items i a low in rw (mine Write i a, y .0, y .1)
 
@@ -169,11 +173,11 @@ module _ (k : ℕ) {h g : House} (L : Law h) (M : Law g) (A : Alike k h g) where
         marks i x y = mine Signalled i y
 
   -- a request that no refusal meets
-  module _ (q : Request) (d : stays k q ≡ true) (c : Clear h q) where
-    served-alike : (me : ℕ) → me < 32 → dominates k (levelOf me) ≡ true → Answers k (served h q me) (served g q me)
+  module _ (four : k < 4) (K : Kept h) (J : Kept g) (q : Request) (d : dominates (h .order) k (q .level) ≡ true) (c : Clear h q) where
+    served-alike : (me : ℕ) → me < 32 → dominates (h .order) k (levelOf me) ≡ true → Answers k (served h q me) (served g q me)
     unfolding served
     served-alike me m low =
-        choose k (q does read) _ _ _ _ (λ r. let u = or-left (q does read) (q does write) r in (ap (replied q) (pair-alike me m low (q .item) (row u) (item-seen k A q d u (c .allowed))), read-alike me m low (q .item) (row u)))
+        choose k (q does read) _ _ _ _ (λ r. let u = or-left (q does read) (q does write) r in (ap (replied q) (pair-alike me m low (q .item) (row u) (item-seen k A four K q d u (c .allowed))), read-alike me m low (q .item) (row u)))
         (λ n1. choose k (q does write) _ _ _ _ (λ w. (refl, write-alike me m low (q .item) (q .value) (row (or-right (q does read) (q does write) w))))
         (λ n2. choose k (q does certify) _ _ _ _ (λ e. (refl, certify-alike me m low))
         (λ n3. choose k (q does commit) _ _ _ _ (λ e. (refl, commit-alike me m low))
@@ -187,23 +191,24 @@ module _ (k : ℕ) {h g : House} (L : Law h) (M : Law g) (A : Alike k h g) where
     unfolding performed
     performed-alike =
         let b = c .level in
-        rw (← vacancy-alike k A (q .level) b d, ← asker-alike k A q d b)
+        rw (← vacancy-alike k A (q .level) b d, ← asker-alike k A four K q d b)
         (choose k (q does begin) _ _ _ _
         (λ e. if-found k (vacancy (h .places) (q .level)) _ _ _ _ (λ me f. let w = vacancy-at (h .places) (q .level) me b f .within in (ap (λ t. replied q (Ticket t)) (A .tickets (q .level) b d), begin-alike (q .level) me b (w .place) d)) (refl, A))
         (λ e. if-found k (asker h q) _ _ _ _ (λ me f. let w = seek-at (h .places) (q .level) (q .ticket) me b f .within in served-alike me (w .place) (rw (w .level) d)) (refl, A)))
 
-    -- whoever holds what is asked for is at a level up to k, so it has one name
+    -- whoever holds what is asked for is at a level that k dominates, so it has one name
     named-alike : (p : ℕ) → holder h q ≡ At p → named h p ≡ named g p
-    named-alike p e = let s = holder-seen k A L M q d c p e in ap (λ x. Delayed (x .ticket) (levelOf p)) (A .places p (s .0) (s .1))
+    named-alike p e = let s = holder-seen k A four K J q d c p e in ap (λ x. Delayed (x .ticket) (levelOf p)) (A .places p (s .0) (s .1))
 
     free-alike : foremost (refusals h q) ≡ 0 → foremost (refusals g q) ≡ 0 → (who : Found) → holder h q ≡ who → Answers k (stepped h q) (stepped g q)
-    free-alike z z′ (At p) e = rw (waits-is h q p z e, waits-is g q p z′ (sym (holder-alike k A L M q d c) ∙ e)) (ap (replied q) (named-alike p e), A)
-    free-alike z z′ Nobody e = rw (free-is h q z e, free-is g q z′ (sym (holder-alike k A L M q d c) ∙ e)) performed-alike
+    free-alike z z′ (At p) e = rw (waits-is h q p z e, waits-is g q p z′ (sym (holder-alike k A four K J q d c) ∙ e)) (ap (replied q) (named-alike p e), A)
+    free-alike z z′ Nobody e = rw (free-is h q z e, free-is g q z′ (sym (holder-alike k A four K J q d c) ∙ e)) performed-alike
 
 pub answered-alike : AnsweredAlike
-answered-alike k h g K J A q d =
-    let r = refusals-alike k A q d in
+answered-alike k four h g K J A q s =
+    let d = and-true (not (ltb 3 (q .level))) _ s .1 in
+    let r = refusals-alike k A four K q d in
     elim (same (foremost (refusals h q)) 0) [
-      | inl z ↦ free-alike k (kept-law K) (kept-law J) A q d (clear h q z) z (sym r ∙ z) (holder h q) refl
+      | inl z ↦ free-alike k (kept-law K) (kept-law J) A four K J q d (clear h q z) z (sym r ∙ z) (holder h q) refl
       | inr n ↦ rw (refused-is h q n, refused-is g q (λ e. n (r ∙ e))) (ap (λ m. replied q (Refused m)) r, A)
     ]

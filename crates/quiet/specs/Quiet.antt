@@ -1,8 +1,8 @@
--- No marking can be noticed (CR 3). "For any level k, strike from any list of requests all whose level byte is above k. The replies to
--- the others are the same bytes in the same order, and so afterwards are the items, places, tickets and places' cells of levels up to
--- k." Of requests and replies here; of their bytes in quiet_bytes.
+-- No marking can be noticed (CR 3). "For any level k, strike from any list of requests" "every request whose level byte is above 3 or not
+-- dominated by k" (CR 6). "The replies to the others are the same bytes in the same order, and so afterwards are the items, places,
+-- tickets and places' cells of" "the levels k dominates" (CR 6). Of requests and replies here; of their bytes in quiet_bytes.
 -- Assumes nothing.
-use Prim.Native.Nat.{ℕ}
+use Prim.Native.Nat.{ℕ, _<_}
 use mathlib.Core.Path.{_≡_}
 use mathlib.Core.Bool.{cond}
 use mathlib.Core.List.{List, [], _∷_}
@@ -13,29 +13,30 @@ use Rattle.house.specs.Opening.{opening}
 use Rattle.house.specs.Run.{Event, finally, replies, trace}
 use Rattle.quiet.specs.Alike.{stays, Alike}
 
--- "strike .. all whose level byte is above k"
-unfoldable pub struck : ℕ → List Request → List Request
-struck k [] = []
-struck k (q ∷ qs) = cond (stays k q) (q ∷ struck k qs) (struck k qs)
+-- what is left of these requests
+unfoldable pub struck : List ℕ → ℕ → List Request → List Request
+struck order k [] = []
+struck order k (q ∷ qs) = cond (stays order k q) (q ∷ struck order k qs) (struck order k qs)
 
 -- of all that was asked and answered, "the replies to the others"
-unfoldable pub toOthers : ℕ → List Event → List Reply
-toOthers k [] = []
-toOthers k (e ∷ es) = cond (stays k (e .0)) (e .1 ∷ toOthers k es) (toOthers k es)
+unfoldable pub toOthers : List ℕ → ℕ → List Event → List Reply
+toOthers order k [] = []
+toOthers order k (e ∷ es) = cond (stays order k (e .0)) (e .1 ∷ toOthers order k es) (toOthers order k es)
 
--- nobody at a level up to k notices whether those above it asked, from this house on
+-- nobody at a level that k dominates notices whether the others asked, from this house on
 pub record Unnoticed (k : ℕ) (h : House) (qs : List Request) : Type 0 where
-  pub told : toOthers k (trace h qs) ≡ replies h (struck k qs)
-  pub afterwards : Alike k (finally h qs) (finally h (struck k qs))
+  pub told : toOthers (h .order) k (trace h qs) ≡ replies h (struck (h .order) k qs)
+  pub afterwards : Alike k (finally h qs) (finally h (struck (h .order) k qs))
 
 -- THE STATEMENTS, proved in proofs/Quiet.antt: from any opening, refused ones too, whatever is asked
 
 abbrev pub NoMarking : Type 0
-NoMarking = (k : ℕ) (levels : List ℕ) (qs : List Request) → Unnoticed k (opening levels .house) qs
+NoMarking = (k : ℕ) → k < 4 → (levels table : List ℕ) (qs : List Request) → Unnoticed k (opening levels table .house) qs
 
--- so of two days on which the others ask the same, whatever those above k do, they cannot tell which it is
+-- so of two days on which the same is asked at the levels that k dominates, whatever the others do, nobody there can tell which it is
 abbrev pub NobodyCanTell : Type 0
 NobodyCanTell =
-    (k : ℕ) (levels : List ℕ) (qs rs : List Request) → struck k qs ≡ struck k rs
-    → let h = opening levels .house in
-    (toOthers k (trace h qs) ≡ toOthers k (trace h rs)) × Alike k (finally h qs) (finally h rs)
+    (k : ℕ) → k < 4 → (levels table : List ℕ) (qs rs : List Request)
+    → let h = opening levels table .house in
+    struck (h .order) k qs ≡ struck (h .order) k rs
+    → (toOthers (h .order) k (trace h qs) ≡ toOthers (h .order) k (trace h rs)) × Alike k (finally h qs) (finally h rs)

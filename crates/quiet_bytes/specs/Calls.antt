@@ -1,19 +1,19 @@
 -- CR 3 over calls: turns and maps in any order, each with reply bytes of its own; a run is one turn.
 -- Assumes nothing. Proved in proofs/Calls.antt.
-use Prim.Native.Nat.{ℕ, _/_, _≤_}
+use Prim.Native.Nat.{ℕ, _/_, _≤_, _<_}
 use mathlib.Core.Bool.{cond}
 use mathlib.Core.List.{List, [], _∷_, map}
 use lib.ListN.{length}
-use Rattle.house.specs.House.{dominates}
 use Rattle.house.specs.Opening.{opening}
 use Rattle.maps.specs.Calls.{Call, byTurn, byMap, askedBy, toldBy, afterCalls}
 use Rattle.dialogue.specs.Pieces.{Enough}
+use Rattle.quiet.specs.Alike.{covers}
 use Rattle.quiet_bytes.specs.Struck.{struckBytes, UnnoticedIn}
 
--- the same call, with its requests above k struck. All reads of a map are of its level
-abbrev pub struckCall : ℕ → Call → Call
-struckCall k (byTurn input room most) = byTurn (struckBytes k input) room most
-struckCall k (byMap level ticket items room) = byMap level ticket (cond (dominates k level) items []) room
+-- the same call, with its requests struck that k does not dominate. All reads of a map are of its level
+abbrev pub struckCall : List ℕ → ℕ → Call → Call
+struckCall order k (byTurn input room most) = byTurn (struckBytes order k input) room most
+struckCall order k (byMap level ticket items room) = byMap level ticket (cond (covers order k level) items []) room
 
 -- "A run is covered only when its turn limit and reply room suffice for the whole list." Of a map, which stays or is struck as a whole,
 -- nothing is asked
@@ -28,7 +28,7 @@ AllSuffice (c ∷ cs) = Suffices c × AllSuffice cs
 -- THE STATEMENT: from any opening, refused ones too
 abbrev pub OverCalls : Type 0
 OverCalls =
-    (k : ℕ) (levels : List ℕ) (cs : List Call) → AllSuffice cs
-    → let h = opening levels .house in
-    let ds = map (struckCall k) cs in
-    UnnoticedIn k (askedBy cs) (toldBy h cs, afterCalls h cs) (toldBy h ds, afterCalls h ds)
+    (k : ℕ) → k < 4 → (levels order : List ℕ) (cs : List Call) → AllSuffice cs
+    → let h = opening levels order .house in
+    let ds = map (struckCall (h .order) k) cs in
+    UnnoticedIn (h .order) k (askedBy cs) (toldBy h cs, afterCalls h cs) (toldBy h ds, afterCalls h ds)

@@ -1,5 +1,5 @@
 -- CR 3 on a small day, in bytes, with marking and without: both sides of its equation, worked out. Items 0 and 1 are layers at level 0,
--- where pupils draw; item 2 is a mark at level 2, where teachers mark.
+-- where pupils draw; item 2 is a mark at level 2, where teachers mark. The order is the diamond.
 -- Assumes nothing. Proved in proofs/Day.antt.
 use Prim.Native.Nat.{ℕ, zero, suc, _/_, _%_, _^_}
 use mathlib.Core.Path.{_≡_}
@@ -7,6 +7,7 @@ use mathlib.Core.Bool.{Bool, true, false, cond}
 use mathlib.Core.List.{List, [], _∷_, _++_, flatMap}
 use Rattle.house.specs.declared.Item.{Item}
 use Rattle.house.specs.House.{itemAt}
+use Rattle.house.specs.Order.{diamond}
 use Rattle.dialogue.specs.Pieces.{programmed}
 use Rattle.quiet_bytes.specs.Struck.{ofOthers}
 use Rattle.quiet_bytes.specs.Program.{struckInput, repliedTo}
@@ -65,7 +66,7 @@ withoutMarking ls = flatMap (λ l. cond (l .marks) [] (l ∷ [])) ls
 
 -- what the program reads, the opening and the requests, and what it is to write
 abbrev pub input : List Line → List ℕ
-input ls = bytes 4 0x03_00_00_02 ++ flatMap (λ l. l .request) ls
+input ls = bytes 4 0x03_00_00_02 ++ diamond ++ flatMap (λ l. l .request) ls
 
 abbrev pub output : List Line → List ℕ
 output ls = flatMap (λ l. l .reply) ls
@@ -81,7 +82,7 @@ pub record Worked : Type 0 where
   -- what is above level 0 struck, the pupils' requests are left
   pub struck : struckInput 0 (input day) ≡ input (withoutMarking day)
   -- "The replies to the others", those of the table
-  pub others : ofOthers 0 16 (repliedTo (input day)) (output day) ≡ output (withoutMarking day)
+  pub others : ofOthers diamond 0 16 (repliedTo (input day)) (output day) ≡ output (withoutMarking day)
   -- "are the same bytes in the same order"
   pub same : programmed (input (withoutMarking day)) .0 ≡ output (withoutMarking day)
   -- and on the one day a mark was committed

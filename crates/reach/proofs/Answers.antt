@@ -3,26 +3,23 @@
 use Prim.Native.Nat.{ℕ}
 use mathlib.Core.Path.{_≡_, refl, sym, ap, _∙_}
 use mathlib.Core.Logic.{_≢_, inl, inr}
-use mathlib.Core.Bool.{Bool, true, false, _||_, cond}
-use mathlib.Core.List.{List, [], _∷_, map}
-use lib.Dec.{eqb}
-use borrow.Author.Tests.{eq-eqb, ne-eqb}
+use mathlib.Core.Bool.{false}
+use borrow.Author.Tests.{ne-eqb}
 use Rattle.house.specs.declared.Found.{Found}
 use Rattle.house.specs.declared.Found.the-variants.{At, Nobody}
 use Rattle.house.specs.declared.House.{House}
 use Rattle.house.specs.declared.Outcome.{Outcome}
 use Rattle.house.specs.declared.Request.{Request}
-use Rattle.house.specs.Search.{nobody, anyOf}
+use Rattle.house.specs.Search.{nobody}
 use Rattle.house.specs.House.{fixed, seek}
 use Rattle.house.specs.Checks.{foremost, someApplies}
 use Rattle.house.specs.Rules.{begin, asker, noOperation, noLevel, unusedSet, unknown, refusals, checks, verdict, stepped}
-use Rattle.house.specs.Opening.{wrongLength, wrongLevel, openVerdict, opening}
-use Rattle.house.proofs.Tests.{is, clash, or-left, or-right, or-elim}
+use Rattle.house.proofs.Tests.{is, clash}
 use Rattle.house.proofs.Places.{zero-nowhere}
-use Rattle.house.proofs.Checks.{none-applies, none-given, first-given, level-there, clear, passes, asker-known}
+use Rattle.house.proofs.Checks.{none-applies, none-given, first-given, level-there, clear, passes, asker-known, foremost-stands}
 use Rattle.house.proofs.Steps.{unserved-is, done-is}
 use Rattle.house.proofs.Effects.{begun-fixed, read-fixed, written-fixed, certified-fixed, committed-fixed, aborted-fixed}
-use Rattle.reach.specs.Answers.{Stranger, TurnedDown, RefusalKeeps, FirstGiven, DoneExactly, OrderStands, NumberStands, OpeningStands, FixedStays, StrangerRefused, ZeroRefused, StrangerGetsSix, ZeroGetsSix, ZeroNamesNobody}
+use Rattle.reach.specs.Answers.{Stranger, TurnedDown, RefusalKeeps, FirstGiven, DoneExactly, OrderStands, NumberStands, FixedStays, StrangerRefused, ZeroRefused, StrangerGetsSix, ZeroGetsSix, ZeroNamesNobody}
 use Rattle.reach.proofs.Turns.{Asker, found, Turn, refused, waits, begins, reads, writes, certifies, commits, aborts, asks, turn}
 use Rattle.reach.proofs.Opened.{reachable-has}
 use Rattle.reach.proofs.Guards.{number}
@@ -49,28 +46,9 @@ pub order-stands : OrderStands
 unfolding checks refusals
 order-stands h q = refl
 
--- the first check of a list that applies has one of its numbers
-foremost-stands : (l : List (ℕ × Bool)) → anyOf (eqb (foremost l)) (0 ∷ map (λ x. x .0) l) ≡ true
-foremost-stands [] = refl
-foremost-stands (x ∷ xs) = either (x .1) (x .0) (foremost xs) (map (λ y. y .0) xs) (foremost-stands xs)
-  where
-    either : (b : Bool) (n m : ℕ) (ns : List ℕ) → anyOf (eqb m) (0 ∷ ns) ≡ true → anyOf (eqb (cond b n m)) (0 ∷ n ∷ ns) ≡ true
-    either true n m ns e = or-right (eqb n 0) (anyOf (eqb n) (n ∷ ns)) (or-left (eqb n n) (anyOf (eqb n) ns) (eq-eqb n n refl))
-    either false n m ns e =
-        let rest = anyOf (eqb m) ns in
-        or-elim (eqb m 0) rest e (or-left (eqb m 0) (eqb m n || rest)) (λ k. or-right (eqb m 0) (eqb m n || rest) (or-right (eqb m n) rest k))
-
 pub number-stands : NumberStands
 unfolding verdict
 number-stands h q = rw (number h q) (rw (order-stands h q) at (foremost-stands (checks h q)))
-
-pub opening-stands : OpeningStands
-unfolding opening openVerdict
-opening-stands levels =
-    elim (is (wrongLength levels)) [
-      | inl y ↦ inr (inl (rw y))
-      | inr y ↦ elim (is (wrongLevel levels)) [ inl z ↦ inr (inr (rw (y, z))) | inr z ↦ inl (rw (y, z)) ]
-    ]
 
 turn-fixed : {h : House} {q : Request} {o : Outcome} → Turn h q o → fixed (o .house) ≡ fixed h
 turn-fixed (refused n) = refl

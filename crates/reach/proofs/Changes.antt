@@ -185,20 +185,20 @@ module _ {h : House} {me i v : ℕ} (L : Law h) (K : MayWrite h me i v) where
 -- CERTIFY
 
 -- the four cases of a cell
-module _ (cells : List ℕ) (me p i c : ℕ) where
-  pub cell-untouched : has Write (cellAt cells me i) ≡ false → certifiedCell cells me p i c ≡ c
+module _ (order cells : List ℕ) (me p i c : ℕ) where
+  pub cell-untouched : has Write (cellAt cells me i) ≡ false → certifiedCell order cells me p i c ≡ c
   unfolding certifiedCell holds
   cell-untouched e = rw e
 
-  cell-mine : has Write (cellAt cells me i) ≡ true → p ≡ me → certifiedCell cells me p i c ≡ marked Certify (unmarked Write c)
+  cell-mine : has Write (cellAt cells me i) ≡ true → p ≡ me → certifiedCell order cells me p i c ≡ marked Certify (unmarked Write c)
   unfolding certifiedCell convertedCell holds
   cell-mine e q = rw (e, eq-eqb p me q)
 
-  cell-signalled : has Write (cellAt cells me i) ≡ true → p ≢ me → above (levelOf p) (levelOf me) ≡ true → has Read c ≡ true → certifiedCell cells me p i c ≡ marked Signalled c
+  cell-signalled : has Write (cellAt cells me i) ≡ true → p ≢ me → above order (levelOf p) (levelOf me) ≡ true → has Read c ≡ true → certifiedCell order cells me p i c ≡ marked Signalled c
   unfolding certifiedCell convertedCell signalledCell holds
   cell-signalled e q a r = rw (e, ne-eqb p me q, a, r)
 
-  pub cell-passed : has Write (cellAt cells me i) ≡ true → p ≢ me → (above (levelOf p) (levelOf me) && has Read c) ≡ false → certifiedCell cells me p i c ≡ c
+  pub cell-passed : has Write (cellAt cells me i) ≡ true → p ≢ me → (above order (levelOf p) (levelOf me) && has Read c) ≡ false → certifiedCell order cells me p i c ≡ c
   unfolding certifiedCell convertedCell signalledCell holds
   cell-passed e q a = rw (e, ne-eqb p me q, a)
 
@@ -214,15 +214,15 @@ spared-signal c r =
     }
 
 module _ {h : House} {me : ℕ} (L : Law h) (K : MayCertify h me) where
-  others : (p i : ℕ) → i < 64 → p ≢ me → Spared (cellAt (h .cells) p i) (certifiedCell (h .cells) me p i (cellAt (h .cells) p i))
+  others : (p i : ℕ) → i < 64 → p ≢ me → Spared (cellAt (h .cells) p i) (certifiedCell (h .order) (h .cells) me p i (cellAt (h .cells) p i))
   others p i a n =
       let c = cellAt (h .cells) p i in
       elim (is (has Write (cellAt (h .cells) me i))) [
-        | inl w ↦ elim (is (above (levelOf p) (levelOf me) && has Read c)) [
-          | inl r ↦ let rr = and-true _ _ r in rw (cell-signalled (h .cells) me p i c w n (rr .0) (rr .1)) (spared-signal c (rr .1))
-          | inr r ↦ spared-same (cell-passed (h .cells) me p i c w n r)
+        | inl w ↦ elim (is (above (h .order) (levelOf p) (levelOf me) && has Read c)) [
+          | inl r ↦ let rr = and-true _ _ r in rw (cell-signalled (h .order) (h .cells) me p i c w n (rr .0) (rr .1)) (spared-signal c (rr .1))
+          | inr r ↦ spared-same (cell-passed (h .order) (h .cells) me p i c w n r)
         ]
-        | inr w ↦ spared-same (cell-untouched (h .cells) me p i c w)
+        | inr w ↦ spared-same (cell-untouched (h .order) (h .cells) me p i c w)
       ]
 
   pub certify-frame : Frame h (certifiedBy h me) me
@@ -244,8 +244,8 @@ module _ {h : House} {me : ℕ} (L : Law h) (K : MayCertify h me) where
       let c = cellAt (h .cells) me i in
       rw (certified-cell (L .sizes) me me i (K .place) a)
       (elim (is (has Write c)) [
-        | inl w ↦ rw (cell-mine (h .cells) me me i c w refl, w, has-marked n Certify (unmarked Write c), has-unmarked n Write c)
-        | inr w ↦ rw (cell-untouched (h .cells) me me i c w, w)
+        | inl w ↦ rw (cell-mine (h .order) (h .cells) me me i c w refl, w, has-marked n Certify (unmarked Write c), has-unmarked n Write c)
+        | inr w ↦ rw (cell-untouched (h .order) (h .cells) me me i c w, w)
       ])
 
   pub certify-held : (i : ℕ) → i < 64 → held (cellAt (certifiedBy h me .cells) me i) ≡ held (cellAt (h .cells) me i)
@@ -269,10 +269,10 @@ module _ {h : House} {me : ℕ} (L : Law h) (K : MayCertify h me) where
 
   -- a reader of what I wrote, at another place, is above me: the read rule puts it at my level or above, and my peers have no
   -- read lock
-  reader-above : (p i : ℕ) → p < 32 → i < 64 → p ≢ me → has Write (cellAt (h .cells) me i) ≡ true → has Read (cellAt (h .cells) p i) ≡ true → above (levelOf p) (levelOf me) ≡ true
+  reader-above : (p i : ℕ) → p < 32 → i < 64 → p ≢ me → has Write (cellAt (h .cells) me i) ≡ true → has Read (cellAt (h .cells) p i) ≡ true → above (h .order) (levelOf p) (levelOf me) ≡ true
   reader-above p i b a n w r =
       let mine = L .cells me i (K .place) a .owned (held-write _ w) in
-      above-intro (levelOf p) (levelOf me) (rw mine at (L .cells p i b a .below r)) (λ e. clash r (K .unread p i a n e w))
+      above-intro (h .order) (levelOf p) (levelOf me) (rw mine at (L .cells p i b a .below r)) (λ e. clash r (K .unread p i a n e w))
 
   pub certify-own : Own h (certifiedBy h me) me
   unfolding certifiedBy
@@ -297,7 +297,7 @@ module _ {h : House} {me : ℕ} (L : Law h) (K : MayCertify h me) where
             let up = reader-above p i b a n w r in
             record {
               higher = up;
-              signal = rw (certified-cell (L .sizes) me p i b a, cell-signalled (h .cells) me p i _ w n up r) (has-marked Signalled Signalled (cellAt (h .cells) p i));
+              signal = rw (certified-cell (L .sizes) me p i b a, cell-signalled (h .order) (h .cells) me p i _ w n up r) (has-marked Signalled Signalled (cellAt (h .cells) p i));
             };
         warned = λ p i b a n c r.
             let w = L .warned p me i b m a (λ e. n (sym e)) c (sym (certify-read i a) ∙ r) in

@@ -14,17 +14,19 @@ use Rattle.house.specs.declared.Outcome.{Outcome}
 use Rattle.house.specs.declared.Request.{Request}
 use Rattle.house.specs.Cell.{cellAt, holds}
 use Rattle.house.specs.House.{blank, itemAt, pendingAt, placeAt, nextAt, isFree}
+use Rattle.house.specs.Order.{PartialOrder}
 use Rattle.house.specs.Rules.{ticketAfter, begun, readBy, writtenBy, certifiedBy, left, committedBy, abortedBy}
 use Rattle.house.specs.Run.{finally}
 use Rattle.house.proofs.Tests.{is, same, clash}
 use Rattle.house.proofs.Effects.{begun-place, begun-next, certified-place, certified-cell, left-place, begun-next-other, read-cell-other, written-cell-other, written-pending, written-pending-other}
 use Rattle.reach.specs.Kept.{Open, wrote, Kept, StepKeeps}
-use Rattle.reach.proofs.Law.{held, Law, Frame, Own, clear-has, clear-held, same-count, same-level, held-kept, lawful}
+use Rattle.reach.proofs.Law.{held, Law, Frame, Own, clear-has, clear-held, same-count, same-order, same-level, held-kept, lawful}
 use Rattle.reach.proofs.Turns.{MayBegin, MayRead, MayWrite, MayCertify, Turn, refused, waits, begins, reads, writes, certifies, commits, aborts, asks, turn}
 use Rattle.reach.proofs.Changes.{begin-clear, begin-frame, begin-own, read-held, read-frame, read-own, write-held, write-holds, write-frame, write-own, cell-untouched, certify-held, certify-frame, certify-own, freed, left-mine, left-dropped, left-stays, committed-row, abort-frame, commit-frame, abort-own, commit-own}
 
 -- what `Kept` has beside the law
 pub record Tidy (h : House) : Type 0 where
+  pub order : PartialOrder (h .order)
   pub count : h .count ≤ 64
   pub levels : (i : ℕ) → i < 64 → itemAt (h .items) i .level < 4
   pub rows : (i : ℕ) → i < 64 → h .count ≤ i → itemAt (h .items) i ≡ blank
@@ -40,6 +42,7 @@ unfolding holds wrote held
 kept L T =
     record {
       sizes = L .sizes;
+      order = T .order;
       count = T .count;
       levels = T .levels;
       rows = λ i a c. (T .rows i a c, T .pending i a (λ p b. clear-held _ (T .inside p i b a c)));
@@ -88,6 +91,7 @@ kept-tidy : {h : House} → Kept h → Tidy h
 unfolding holds wrote held
 kept-tidy K =
     record {
+      order = K .order;
       count = K .count;
       levels = K .levels;
       rows = λ i a c. K .rows i a c .0;
@@ -115,6 +119,7 @@ record Neat (h h′ : House) (me : ℕ) : Type 0 where
 tidied : {h h′ : House} {me : ℕ} → Law h → Frame h h′ me → me < 32 → Tidy h → Neat h h′ me → Tidy h′
 tidied {h} {h′} {me} L F m T N =
     record {
+      order = rw (same-order h′ h (F .fixed)) (T .order);
       count = rw (same-count h′ h (F .fixed)) (T .count);
       levels = λ i a. rw (same-level h′ h (F .fixed) i) (T .levels i a);
       rows = λ i a c. let c′ : h .count ≤ i = rw (same-count h′ h (F .fixed)) at c in N .rows i a c′ ∙ T .rows i a c′;
@@ -210,7 +215,7 @@ module _ {h : House} {me : ℕ} (L : Law h) (T : Tidy h) (K : MayCertify h me) w
         next = T .next;
         inside = λ i a c.
             let z = T .inside me i m a c in
-            certified-cell (L .sizes) me me i m a ∙ cell-untouched (h .cells) me me i _ (clear-has Write _ z) ∙ z;
+            certified-cell (L .sizes) me me i m a ∙ cell-untouched (h .order) (h .cells) me me i _ (clear-has Write _ z) ∙ z;
       }
 
 -- Commit and abort

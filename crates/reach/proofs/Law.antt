@@ -6,6 +6,7 @@ use Prim.Native.Nat.{ℕ, _<_}
 use mathlib.Core.Path.{_≡_, sym, ap, _∙_}
 use mathlib.Core.Logic.{_≢_, _⊎_, inl, inr}
 use mathlib.Core.Bool.{Bool, true, false, _||_}
+use mathlib.Core.List.{List}
 use lib.ListN.{getD, List·getD-map}
 use Rattle.house.specs.declared.House.{House}
 use Rattle.house.specs.declared.Mark.{Mark}
@@ -34,26 +35,26 @@ pub held-neither : (c : ℕ) → held c ≡ false → (has Write c ≡ false) ×
 unfolding held
 held-neither c e = or-false (has Write c) (has Certify c) e
 
--- the cell c of an item with level x and version v, and of a place with level l and standing s
-pub record CellLaw (x v l : ℕ) (s : Standing) (c : ℕ) : Type 0 where
+-- the cell c of an item with level x and version v, and of a place with level l and standing s, in such an order of the levels
+pub record CellLaw (order : List ℕ) (x v l : ℕ) (s : Standing) (c : ℕ) : Type 0 where
   pub idle : isFree s ≡ true → c ≡ 0
   pub writing : has Write c ≡ true → isActive s ≡ true
   pub certifying : has Certify c ≡ true → isCertified s ≡ true
-  pub below : has Read c ≡ true → dominates l x ≡ true
+  pub below : has Read c ≡ true → dominates order l x ≡ true
   pub heard : has Signalled c ≡ true → has Read c ≡ true
   pub owned : held c ≡ true → x ≡ l
   pub room : held c ≡ true → v < 4294967295
 
 -- a cell with a read lock from level a, on an item that level b has certified
-pub record Warned (a b c : ℕ) : Type 0 where
-  pub higher : above a b ≡ true
+pub record Warned (order : List ℕ) (a b c : ℕ) : Type 0 where
+  pub higher : above order a b ≡ true
   pub signal : has Signalled c ≡ true
 
 pub record Law (h : House) : Type 0 where
   pub sizes : Sizes h
-  pub cells : (p i : ℕ) → p < 32 → i < 64 → CellLaw (itemAt (h .items) i .level) (itemAt (h .items) i .version) (levelOf p) (placeAt (h .places) p .standing) (cellAt (h .cells) p i)
+  pub cells : (p i : ℕ) → p < 32 → i < 64 → CellLaw (h .order) (itemAt (h .items) i .level) (itemAt (h .items) i .version) (levelOf p) (placeAt (h .places) p .standing) (cellAt (h .cells) p i)
   pub sole : (p q i : ℕ) → p < 32 → q < 32 → i < 64 → held (cellAt (h .cells) p i) ≡ true → held (cellAt (h .cells) q i) ≡ true → p ≡ q
-  pub warned : (p q i : ℕ) → p < 32 → q < 32 → i < 64 → q ≢ p → has Certify (cellAt (h .cells) p i) ≡ true → has Read (cellAt (h .cells) q i) ≡ true → Warned (levelOf q) (levelOf p) (cellAt (h .cells) q i)
+  pub warned : (p q i : ℕ) → p < 32 → q < 32 → i < 64 → q ≢ p → has Certify (cellAt (h .cells) p i) ≡ true → has Read (cellAt (h .cells) q i) ≡ true → Warned (h .order) (levelOf q) (levelOf p) (cellAt (h .cells) q i)
   pub apart : (p q : ℕ) → p < 32 → q < 32 → Open h p → Open h q → levelOf p ≡ levelOf q → placeAt (h .places) p .ticket ≡ placeAt (h .places) q .ticket → p ≡ q
   pub issued : (p : ℕ) → p < 32 → Open h p → Issued h (levelOf p) (placeAt (h .places) p .ticket)
 
@@ -70,8 +71,8 @@ pub clear-held : (c : ℕ) → c ≡ 0 → held c ≡ false
 unfolding held
 clear-held c z = rw (clear-has Write c z) (clear-has Certify c z)
 
-pub clear-lawful : (c : ℕ) → c ≡ 0 → (x v l : ℕ) (s : Standing) → CellLaw x v l s c
-clear-lawful c z x v l s =
+pub clear-lawful : (c : ℕ) → c ≡ 0 → (order : List ℕ) (x v l : ℕ) (s : Standing) → CellLaw order x v l s c
+clear-lawful c z order x v l s =
     record {
       idle = λ f. z;
       writing = λ w. clash w (clear-has Write c z);
@@ -87,7 +88,7 @@ pub clear-law : {h : House} → Sizes h → ((p : ℕ) → p < 32 → isFree (pl
 clear-law z free clear =
     record {
       sizes = z;
-      cells = λ p i b a. clear-lawful _ (clear p i b a) _ _ _ _;
+      cells = λ p i b a. clear-lawful _ (clear p i b a) _ _ _ _ _;
       sole = λ p q i b c a x y. clash x (clear-held _ (clear p i b a));
       warned = λ p q i b c a n x y. clash y (clear-has Read _ (clear q i c a));
       apart = λ p q b c x y l t. clash (free p b) x;
@@ -95,7 +96,7 @@ clear-law z free clear =
     }
 
 -- what another has written on an item that a level dominates, that level dominates
-pub claimed-below : {h : House} → Law h → (l me p i : ℕ) → p < 32 → i < 64 → dominates l (itemAt (h .items) i .level) ≡ true → anotherClaims (h .cells) me i p ≡ true → dominates l (levelOf p) ≡ true
+pub claimed-below : {h : House} → Law h → (l me p i : ℕ) → p < 32 → i < 64 → dominates (h .order) l (itemAt (h .items) i .level) ≡ true → anotherClaims (h .cells) me i p ≡ true → dominates (h .order) l (levelOf p) ≡ true
 unfolding anotherClaims
 claimed-below {h} L l me p i b a d y =
     let own = L .cells p i b a .owned in
@@ -133,10 +134,10 @@ pub record Frame (h h′ : House) (me : ℕ) : Type 0 where
   pub issued : (l t : ℕ) → Issued h l t → Issued h′ l t
 
 pub record Own (h h′ : House) (me : ℕ) : Type 0 where
-  pub cells : (i : ℕ) → i < 64 → CellLaw (itemAt (h .items) i .level) (itemAt (h′ .items) i .version) (levelOf me) (placeAt (h′ .places) me .standing) (cellAt (h′ .cells) me i)
+  pub cells : (i : ℕ) → i < 64 → CellLaw (h .order) (itemAt (h .items) i .level) (itemAt (h′ .items) i .version) (levelOf me) (placeAt (h′ .places) me .standing) (cellAt (h′ .cells) me i)
   pub sole : (p i : ℕ) → p < 32 → i < 64 → p ≢ me → held (cellAt (h′ .cells) me i) ≡ true → held (cellAt (h .cells) p i) ≡ false
-  pub warns : (p i : ℕ) → p < 32 → i < 64 → p ≢ me → has Certify (cellAt (h′ .cells) me i) ≡ true → has Read (cellAt (h .cells) p i) ≡ true → Warned (levelOf p) (levelOf me) (cellAt (h′ .cells) p i)
-  pub warned : (p i : ℕ) → p < 32 → i < 64 → p ≢ me → has Certify (cellAt (h .cells) p i) ≡ true → has Read (cellAt (h′ .cells) me i) ≡ true → Warned (levelOf me) (levelOf p) (cellAt (h′ .cells) me i)
+  pub warns : (p i : ℕ) → p < 32 → i < 64 → p ≢ me → has Certify (cellAt (h′ .cells) me i) ≡ true → has Read (cellAt (h .cells) p i) ≡ true → Warned (h .order) (levelOf p) (levelOf me) (cellAt (h′ .cells) p i)
+  pub warned : (p i : ℕ) → p < 32 → i < 64 → p ≢ me → has Certify (cellAt (h .cells) p i) ≡ true → has Read (cellAt (h′ .cells) me i) ≡ true → Warned (h .order) (levelOf me) (levelOf p) (cellAt (h′ .cells) me i)
   pub apart : (p : ℕ) → p < 32 → p ≢ me → Open h′ me → Open h p → levelOf p ≡ levelOf me → placeAt (h .places) p .ticket ≢ placeAt (h′ .places) me .ticket
   pub issued : Open h′ me → Issued h′ (levelOf me) (placeAt (h′ .places) me .ticket)
 
@@ -148,7 +149,7 @@ pub clear-own : {h h′ : House} {me : ℕ}
     → Own h h′ me
 clear-own clear apart issued =
     record {
-      cells = λ i a. clear-lawful _ (clear i a) _ _ _ _;
+      cells = λ i a. clear-lawful _ (clear i a) _ _ _ _ _;
       sole = λ p i b a n g. clash g (clear-held _ (clear i a));
       warns = λ p i b a n c r. clash c (clear-has Certify _ (clear i a));
       warned = λ p i b a n c r. clash r (clear-has Read _ (clear i a));
@@ -156,22 +157,26 @@ clear-own clear apart issued =
       issued = issued;
     }
 
--- where an opening fixed the same, there are as many items, each at its level
+-- where an opening fixed the same, there are as many items, each at its level, and the order is the same
 
 pub same-count : (h g : House) → fixed h ≡ fixed g → h .count ≡ g .count
 unfolding fixed
 same-count h g e = ap (λ x. x .0) e
 
+pub same-order : (h g : House) → fixed h ≡ fixed g → h .order ≡ g .order
+unfolding fixed
+same-order h g e = ap (λ x. x .1) e
+
 pub same-level : (h g : House) → fixed h ≡ fixed g → (i : ℕ) → itemAt (h .items) i .level ≡ itemAt (g .items) i .level
 unfolding fixed
-same-level h g e i = sym (List·getD-map (λ x. x .level) (h .items) i blank) ∙ ap (λ x. getD (x .1) i 0) e ∙ List·getD-map (λ x. x .level) (g .items) i blank
+same-level h g e i = sym (List·getD-map (λ x. x .level) (h .items) i blank) ∙ ap (λ x. getD (x .2) i 0) e ∙ List·getD-map (λ x. x .level) (g .items) i blank
 
 module _ {h h′ : House} {me : ℕ} (L : Law h) (F : Frame h h′ me) where
   pub held-kept : (p i : ℕ) → p < 32 → i < 64 → p ≢ me → held (cellAt (h′ .cells) p i) ≡ held (cellAt (h .cells) p i)
   unfolding held
   held-kept p i b a n = let s = F .cell p i b a n in rw (s .writing, s .certifying)
 
-  other-lawful : (p i : ℕ) → p < 32 → i < 64 → p ≢ me → CellLaw (itemAt (h .items) i .level) (itemAt (h′ .items) i .version) (levelOf p) (placeAt (h′ .places) p .standing) (cellAt (h′ .cells) p i)
+  other-lawful : (p i : ℕ) → p < 32 → i < 64 → p ≢ me → CellLaw (h .order) (itemAt (h .items) i .level) (itemAt (h′ .items) i .version) (levelOf p) (placeAt (h′ .places) p .standing) (cellAt (h′ .cells) p i)
   other-lawful p i b a n =
       let s = F .cell p i b a n in
       let k = L .cells p i b a in
@@ -191,7 +196,7 @@ module _ {h h′ : House} {me : ℕ} (L : Law h) (F : Frame h h′ me) where
   lawful m O =
       record {
         sizes = F .sizes;
-        cells = λ p i b a. rw (same-level h′ h (F .fixed) i) (elim (same p me) [ inl e ↦ rw e (O .cells i a) | inr n ↦ other-lawful p i b a n ]);
+        cells = λ p i b a. rw (same-order h′ h (F .fixed), same-level h′ h (F .fixed) i) (elim (same p me) [ inl e ↦ rw e (O .cells i a) | inr n ↦ other-lawful p i b a n ]);
         sole = λ p q i b c a x y.
             elim (same p me) [
               | inl e ↦ elim (same q me) [ inl f ↦ e ∙ sym f | inr n ↦ clash (sym (held-kept q i c a n) ∙ y) (O .sole q i c a n (rw e at x)) ]
@@ -201,7 +206,8 @@ module _ {h h′ : House} {me : ℕ} (L : Law h) (F : Frame h h′ me) where
               ]
             ];
         warned = λ p q i b c a d x y.
-            elim (same p me) [
+            rw (same-order h′ h (F .fixed))
+            (elim (same p me) [
               | inl e ↦ rw e (O .warns q i c a (λ f. d (f ∙ sym e)) (rw e at x) (sym (F .cell q i c a (λ f. d (f ∙ sym e)) .reading) ∙ y))
               | inr n ↦ elim (same q me) [
                 | inl f ↦ rw f (O .warned p i b a n (sym (F .cell p i b a n .certifying) ∙ x) (rw f at y))
@@ -209,7 +215,7 @@ module _ {h h′ : House} {me : ℕ} (L : Law h) (F : Frame h h′ me) where
                     let w = L .warned p q i b c a d (sym (F .cell p i b a n .certifying) ∙ x) (sym (F .cell q i c a k .reading) ∙ y) in
                     record { higher = w .higher; signal = F .cell q i c a k .signal (w .signal) }
               ]
-            ];
+            ]);
         apart = λ p q b c x y l t.
             elim (same p me) [
               | inl e ↦ elim (same q me) [

@@ -12,3 +12,5 @@ pub mod Seeking
 pub mod Replies
 pub mod Sheets
 pub mod Tickets
+pub mod Beside
+pub mod Chain

@@ -15,6 +15,7 @@ use Rattle.house.specs.declared.Request.{Request}
 use Rattle.house.specs.Cell.{holds}
 use Rattle.house.specs.House.{itemAt}
 use Rattle.house.specs.Rules.{grown, begun, readBy, writtenBy, certifiedBy, left, committedItem, committedBy}
+use Rattle.house.specs.Order.{oldChain}
 use Rattle.house.specs.Opening.{opened}
 use Rattle.house.specs.Run.{finally}
 use Rattle.house.proofs.Tests.{is, or-right}
@@ -71,10 +72,10 @@ unfolding finally
 finally-unsaved K i a u [] = u
 finally-unsaved {h} K i a u (q ∷ qs) = finally-unsaved (step-keeps h K q) i a (saved-unsaved u (turn-saves K i a (turn h q))) qs
 
-opened-unsaved : (levels : List ℕ) (i : ℕ) → i < 64 → Unsaved (itemAt (opened levels .items) i)
-opened-unsaved levels i a = rw (opened-item levels i a)
+opened-unsaved : (levels table : List ℕ) (i : ℕ) → i < 64 → Unsaved (itemAt (opened levels table .items) i)
+opened-unsaved levels table i a = rw (opened-item levels table i a)
 
 pub zero-unsaved : ZeroUnsaved
 zero-unsaved h R i a =
-    let first = opening-cases (λ h. Unsaved (itemAt (h .items) i)) (R .levels) (λ K. opened-unsaved (R .levels) i a) (opened-unsaved [] i a) in
-    rw (← R .comes) (finally-unsaved (opening-has (R .levels)) i a first (R .requests))
+    let first = opening-cases (λ h. Unsaved (itemAt (h .items) i)) (R .levels) (R .table) (λ P O. opened-unsaved (R .levels) (R .table) i a) (opened-unsaved [] oldChain i a) in
+    rw (← R .comes) (finally-unsaved (opening-has (R .levels) (R .table)) i a first (R .requests))

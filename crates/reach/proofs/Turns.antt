@@ -42,7 +42,7 @@ pub record MayRead (h : House) (me i : ℕ) : Type 0 where
   pub row : i < 64
   pub item : i < h .count
   pub active : placeAt (h .places) me .standing ≡ Active
-  pub may : dominates (levelOf me) (itemAt (h .items) i .level) ≡ true
+  pub may : dominates (h .order) (levelOf me) (itemAt (h .items) i .level) ≡ true
   pub uncontested : (p : ℕ) → p < 32 → p ≢ me → has Certify (cellAt (h .cells) p i) ≡ false
 
 -- Write, of v to item i

@@ -3,7 +3,7 @@
 -- Assumes nothing.
 use Prim.Native.Nat.{ℕ, _<_}
 use mathlib.Core.Path.{_≡_}
-use mathlib.Core.Logic.{_≢_, _⊎_}
+use mathlib.Core.Logic.{_≢_}
 use mathlib.Core.Bool.{true, false, _&&_, not}
 use mathlib.Core.List.{List, [], _∷_, map}
 use lib.Dec.{eqb}
@@ -13,13 +13,12 @@ use Rattle.house.specs.Search.{anyOf}
 use Rattle.house.specs.House.{fixed, levelOf, placeAt}
 use Rattle.house.specs.Checks.{someApplies, testOf, before}
 use Rattle.house.specs.Rules.{begin, noOperation, noLevel, unusedSet, checks, performed, stepped}
-use Rattle.house.specs.Opening.{opening}
 use Rattle.reach.specs.Reach.{Reachable}
 use Rattle.reach.specs.Kept.{Open}
 
 -- "Order of checks: 3, 4, 5, 6, 7, 8, 2, 9, 10, 11, 12, 1", with 15 "after 8 and before 2" (CR 1)
-abbrev pub order : List ℕ
-order = 3 ∷ 4 ∷ 5 ∷ 6 ∷ 7 ∷ 8 ∷ 15 ∷ 2 ∷ 9 ∷ 10 ∷ 11 ∷ 12 ∷ 1 ∷ []
+abbrev pub orderOfChecks : List ℕ
+orderOfChecks = 3 ∷ 4 ∷ 5 ∷ 6 ∷ 7 ∷ 8 ∷ 15 ∷ 2 ∷ 9 ∷ 10 ∷ 11 ∷ 12 ∷ 1 ∷ []
 
 -- nobody who is open at the request's level has its ticket
 abbrev pub Stranger : House → Request → Type 0
@@ -45,16 +44,13 @@ DoneExactly = (h : House) (q : Request) → (eqb (stepped h q .reply .number) 0 
 
 -- the checks stand in this order, whatever is asked
 abbrev pub OrderStands : Type 0
-OrderStands = (h : House) (q : Request) → map (λ x. x .0) (checks h q) ≡ order
+OrderStands = (h : House) (q : Request) → map (λ x. x .0) (checks h q) ≡ orderOfChecks
 
--- the number of every reply stands in the table: it is 0 or one of these; of an opening 0, 13 or 14
+-- the number of every reply stands in the table: it is 0 or one of these
 abbrev pub NumberStands : Type 0
-NumberStands = (h : House) (q : Request) → anyOf (eqb (stepped h q .reply .number)) (0 ∷ order) ≡ true
+NumberStands = (h : House) (q : Request) → anyOf (eqb (stepped h q .reply .number)) (0 ∷ orderOfChecks) ≡ true
 
-abbrev pub OpeningStands : Type 0
-OpeningStands = (levels : List ℕ) → (opening levels .number ≡ 0) ⊎ ((opening levels .number ≡ 13) ⊎ (opening levels .number ≡ 14))
-
--- "Each has a fixed level": no request changes it, nor how many items there are
+-- "Each has a fixed level": no request changes it, nor how many items there are, nor which levels dominate which
 abbrev pub FixedStays : Type 0
 FixedStays = (h : House) (q : Request) → fixed (stepped h q .house) ≡ fixed h
 

@@ -32,7 +32,7 @@ pub record Holds (h : House) (q : Request) (p : ℕ) : Type 0 where
   -- of all items and places of which that can be said, the item is the lowest and, on it, the place
   pub lowest : (i r : ℕ) → i < 64 → r < 32 → wants (h .cells) q me i ≡ true → refusedBy h q me i r ≡ true → (item < i) ⊎ ((item ≡ i) × (p ≤ r))
   -- the asker's level dominates the holder's
-  pub below : dominates (q .level) (levelOf p) ≡ true
+  pub below : dominates (h .order) (q .level) (levelOf p) ≡ true
 
 -- The reply r names the holder: by its ticket, which is not 0, and its level
 pub record Named (h : House) (q : Request) (r : Reply) : Type 0 where

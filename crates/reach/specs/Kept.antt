@@ -10,6 +10,7 @@ use Rattle.house.specs.declared.Mark.the-variants.{Read, Write, Certify, Signal
 use Rattle.house.specs.declared.Request.{Request}
 use Rattle.house.specs.Cell.{cellAt, holds}
 use Rattle.house.specs.House.{Sizes, dominates, above, levelOf, blank, itemAt, pendingAt, placeAt, nextAt, isFree, isActive, isCertified}
+use Rattle.house.specs.Order.{PartialOrder}
 use Rattle.house.specs.Rules.{stepped}
 use Rattle.house.specs.Opening.{opening}
 use Rattle.reach.specs.Reach.{Reachable}
@@ -28,9 +29,11 @@ wrote cells p i = holds cells Write p i || holds cells Certify p i
 
 -- Items are i < 64 and places p, r < 32 throughout
 pub record Kept (h : House) : Type 0 where
-  -- THE ITEMS
-  -- the lists are as long as the arrays: 64 items, 64 pending values, 32 places, 4 next tickets, 2,048 cells
+  -- the lists are as long as the arrays: 16 bytes of the order, 64 items, 64 pending values, 32 places, 4 next tickets, 2,048 cells
   pub sizes : Sizes h
+  -- which levels dominate which is a partial order
+  pub order : PartialOrder (h .order)
+  -- THE ITEMS
   -- there are at most 64 items
   pub count : h .count ≤ 64
   -- an item's level is 0 to 3
@@ -58,7 +61,7 @@ pub record Kept (h : House) : Type 0 where
   -- a row past the last item has clear cells
   pub inside : (p i : ℕ) → p < 32 → i < 64 → h .count ≤ i → cellAt (h .cells) p i ≡ 0
   -- read locks are on dominated items only
-  pub below : (p i : ℕ) → p < 32 → i < 64 → holds (h .cells) Read p i ≡ true → dominates (levelOf p) (itemAt (h .items) i .level) ≡ true
+  pub below : (p i : ℕ) → p < 32 → i < 64 → holds (h .cells) Read p i ≡ true → dominates (h .order) (levelOf p) (itemAt (h .items) i .level) ≡ true
   -- write and certify locks are at the item's level
   pub owned : (p i : ℕ) → p < 32 → i < 64 → wrote (h .cells) p i ≡ true → itemAt (h .items) i .level ≡ levelOf p
   -- at most one transaction holds write or certify on an item
@@ -67,7 +70,7 @@ pub record Kept (h : House) : Type 0 where
   pub writing : (p i : ℕ) → p < 32 → i < 64 → holds (h .cells) Write p i ≡ true → isActive (placeAt (h .places) p .standing) ≡ true
   pub certifying : (p i : ℕ) → p < 32 → i < 64 → holds (h .cells) Certify p i ≡ true → isCertified (placeAt (h .places) p .standing) ≡ true
   -- an item on which one holds certify has no other reader at its level, only such as are above it
-  pub higher : (p r i : ℕ) → p < 32 → r < 32 → i < 64 → r ≢ p → holds (h .cells) Certify p i ≡ true → holds (h .cells) Read r i ≡ true → above (levelOf r) (levelOf p) ≡ true
+  pub higher : (p r i : ℕ) → p < 32 → r < 32 → i < 64 → r ≢ p → holds (h .cells) Certify p i ≡ true → holds (h .cells) Read r i ≡ true → above (h .order) (levelOf r) (levelOf p) ≡ true
   -- and each of them is signalled
   pub warned : (p r i : ℕ) → p < 32 → r < 32 → i < 64 → r ≢ p → holds (h .cells) Certify p i ≡ true → holds (h .cells) Read r i ≡ true → holds (h .cells) Signalled r i ≡ true
   -- whoever is signalled has a read lock there
@@ -79,7 +82,7 @@ pub record Kept (h : House) : Type 0 where
 
 -- an opening yields such a house, and a request leads from such a house to such a house
 abbrev pub OpeningHas : Type 0
-OpeningHas = (levels : List ℕ) → Kept (opening levels .house)
+OpeningHas = (levels table : List ℕ) → Kept (opening levels table .house)
 
 abbrev pub StepKeeps : Type 0
 StepKeeps = (h : House) → Kept h → (q : Request) → Kept (stepped h q .house)

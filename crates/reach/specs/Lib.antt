@@ -1,4 +1,5 @@
 pub mod Reach
+pub mod Opening
 pub mod Kept
 pub mod Guards
 pub mod Delay
@@ -9,3 +10,5 @@ pub mod Seeking
 pub mod Replies
 pub mod Sheets
 pub mod Tickets
+pub mod Beside
+pub mod Chain

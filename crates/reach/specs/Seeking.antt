@@ -49,6 +49,6 @@ abbrev pub NoAnswerChanges : Type 0
 NoAnswerChanges =
     (rules : Found → House → Request → Outcome)
     → ((h : House) (q : Request) → rules (asker h q) h q ≡ stepped h q)
-    → (levels : List ℕ) (qs : List Request)
-    → let h = opening levels .house in
+    → (levels table : List ℕ) (qs : List Request)
+    → let h = opening levels table .house in
     runBy (λ h q. rules (askerInOrder h q) h q) h qs ≡ (finally h qs, replies h qs)

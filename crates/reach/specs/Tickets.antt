@@ -22,4 +22,4 @@ among n = anyOf (sameName n)
 -- THE STATEMENT, proved in proofs/Tickets.antt: from any opening, refused ones too, whatever is asked, no name is given twice, and
 -- ticket 0 is given at no level
 abbrev pub TicketsOnce : Type 0
-TicketsOnce = (levels : List ℕ) (qs : List Request) → let names = given (trace (opening levels .house) qs) in (distinct sameName names ≡ true) × ((l : ℕ) → among (l, 0) names ≡ false)
+TicketsOnce = (levels table : List ℕ) (qs : List Request) → let names = given (trace (opening levels table .house) qs) in (distinct sameName names ≡ true) × ((l : ℕ) → among (l, 0) names ≡ false)

@@ -100,8 +100,8 @@ first-some w f k (suc n) =
     ]
 
 -- the case of the transaction at place `me`
-abbrev made : ℕ → Item → ℕ → Place → Request → ℕ → Case
-made count x v s q me = record { request = q; count = count; row = x; pending = v; me = me; seat = s }
+abbrev made : ℕ → List ℕ → Item → ℕ → Place → Request → ℕ → Case
+made count order x v s q me = record { request = q; count = count; order = order; row = x; pending = v; me = me; seat = s }
 
 -- THE RULING OVER WHAT IS SHOWN: the checks that look at the request alone, and then a begin, or the operation of the transaction found
 
@@ -144,7 +144,7 @@ module _ (h : House) (q : Request) where
 
   module _ (me : ℕ) (at : asker h q ≡ At me) where
     abbrev case : Case
-    case = made (h .count) (itemAt (h .items) (q .item)) (pendingAt (h .pending) (q .item)) (placeAt (h .places) me) q me
+    case = made (h .count) (h .order) (itemAt (h .items) (q .item)) (pendingAt (h .pending) (q .item)) (placeAt (h .places) me) q me
 
     abbrev lacks : Bool
     lacks = leb (h .count) (q .item) || leb 64 (q .item)
@@ -175,17 +175,17 @@ module _ (h : House) (q : Request) where
 -- The row and the pending value of an item that the house has not are not looked at
 
 module _ (q : Request) (me : ℕ) where
-  row-unseen : (count v v′ : ℕ) (x x′ : Item) (s : Place) (cells : List ℕ) → leb 64 (q .item) ≡ true → knownRuled (made count x v s q me) cells ≡ knownRuled (made count x′ v′ s q me) cells
+  row-unseen : (count v v′ : ℕ) (order : List ℕ) (x x′ : Item) (s : Place) (cells : List ℕ) → leb 64 (q .item) ≡ true → knownRuled (made count order x v s q me) cells ≡ knownRuled (made count order x′ v′ s q me) cells
   unfolding knownRuled readRuled writeRuled certifyRuled commitRuled
-  row-unseen count v v′ x x′ s cells e = let none : (leb count (q .item) || leb 64 (q .item)) ≡ true = or-right (leb count (q .item)) _ e in rw none
+  row-unseen count v v′ order x x′ s cells e = let none : (leb count (q .item) || leb 64 (q .item)) ≡ true = or-right (leb count (q .item)) _ e in rw none
 
-  case-same : {count count′ v v′ : ℕ} {x x′ : Item} {s s′ : Place} {cells cells′ : List ℕ}
-      → count ≡ count′ → (q .item < 64 → x ≡ x′) → (q .item < 64 → v ≡ v′) → s ≡ s′ → cells ≡ cells′
-      → knownRuled (made count x v s q me) cells ≡ knownRuled (made count′ x′ v′ s′ q me) cells′
-  case-same c r p e k =
-      rw (c, e, k)
+  case-same : {count count′ v v′ : ℕ} {x x′ : Item} {s s′ : Place} {order order′ cells cells′ : List ℕ}
+      → count ≡ count′ → order ≡ order′ → (q .item < 64 → x ≡ x′) → (q .item < 64 → v ≡ v′) → s ≡ s′ → cells ≡ cells′
+      → knownRuled (made count order x v s q me) cells ≡ knownRuled (made count′ order′ x′ v′ s′ q me) cells′
+  case-same c o r p e k =
+      rw (c, o, e, k)
       (elim (is (leb 64 (q .item))) [
-        | inl n ↦ row-unseen _ _ _ _ _ _ _ n
+        | inl n ↦ row-unseen _ _ _ _ _ _ _ _ n
         | inr b ↦ let a = leb-false 64 (q .item) b in rw (r a, p a)
       ])
 
@@ -214,7 +214,7 @@ module _ (v : View) (cells : List ℕ) (q : Request) (h : House) (k : Shown h q 
     others-shown o (At n) e =
         let b = seek-at (v .eight) 0 (q .ticket) n (omega arith) e .within .level in
         let me = q .level * 8 + n in
-        known-ruled h q me (seek-eight ∙ rw e) known o ∙ case-same q me (k .count) (k .row) (k .pending) (k .places level n (omega arith)) (k .cells)
+        known-ruled h q me (seek-eight ∙ rw e) known o ∙ case-same q me (k .count) (k .order) (k .row) (k .pending) (k .places level n (omega arith)) (k .cells)
 
     rest-shown : rest h q ≡ operationRuled v cells q
     rest-shown = elim (same (q .operation) begin) [
@@ -242,6 +242,7 @@ module _ (v : View) (cells : List ℕ) (q : Request) where
   some =
       record {
         count = v .count;
+        order = v .order;
         items = replicate (q .item) blank ++ v .row ∷ [];
         pending = replicate (q .item) 0 ++ v .pending ∷ [];
         places = replicate (q .level * 8) vacant ++ v .eight;
@@ -254,6 +255,7 @@ module _ (v : View) (cells : List ℕ) (q : Request) where
   witness =
       record {
         count = refl;
+        order = refl;
         places = λ b k c. after (q .level * 8) k vacant (v .eight);
         ticket = λ b. rw (add-zero (q .level)) at (after (q .level) 0 0 (v .ticket ∷ []));
         row = λ b. rw (add-zero (q .item)) at (after (q .item) 0 blank (v .row ∷ []));
@@ -286,12 +288,13 @@ abbrev pub viewOf : House → Request → View
 viewOf h q =
     let l = q .level % 4 in
     let i = q .item % 64 in
-    record { count = h .count; eight = eightOf (h .places) (l * 8); ticket = nextAt (h .next) l; row = itemAt (h .items) i; pending = pendingAt (h .pending) i }
+    record { count = h .count; order = h .order; eight = eightOf (h .places) (l * 8); ticket = nextAt (h .next) l; row = itemAt (h .items) i; pending = pendingAt (h .pending) i }
 
 pub shows : (h : House) (q : Request) → Shown h q (viewOf h q) (h .cells)
 shows h q =
     record {
       count = refl;
+      order = refl;
       places = λ b k c. eight-at (h .places) (q .level * 8) k c ∙ ap (λ l. placeAt (eightOf (h .places) (l * 8)) k) (sym (mod-eq-of-lt b));
       ticket = λ b. ap (nextAt (h .next)) (sym (mod-eq-of-lt b));
       row = λ b. ap (itemAt (h .items)) (sym (mod-eq-of-lt b));

@@ -25,6 +25,7 @@ use Rattle.ruling.specs.Ruling.{ruled}
 -- The judge is shown this view of the house, where the house has such a level and such an item, and all its cells
 pub record Shown (h : House) (q : Request) (v : View) (lent : List ℕ) : Type 0 where
   pub count : h .count ≡ v .count
+  pub order : h .order ≡ v .order
   pub places : q .level < 4 → (k : ℕ) → k < 8 → placeAt (h .places) (q .level * 8 + k) ≡ placeAt (v .eight) k
   pub ticket : q .level < 4 → nextAt (h .next) (q .level) ≡ v .ticket
   pub row : q .item < 64 → itemAt (h .items) (q .item) ≡ v .row
@@ -37,7 +38,7 @@ Judged v cells q r = (h : House) → Shown h q v cells → r ≡ ruled h q
 
 -- the case of the transaction found at the k-th of the eight
 abbrev pub found : View → Request → ℕ → Case
-found v q k = record { request = q; count = v .count; row = v .row; pending = v .pending; me = q .level * 8 + k; seat = placeAt (v .eight) k }
+found v q k = record { request = q; count = v .count; order = v .order; row = v .row; pending = v .pending; me = q .level * 8 + k; seat = placeAt (v .eight) k }
 
 -- Operation by operation, past the checks 3, 4, 5 and 6
 
@@ -65,7 +66,7 @@ abbrev pub readChecks : Case → List ℕ → List (ℕ × Bool)
 readChecks c cells =
     let i = c .request .item in
     (7, leb (c .count) i || leb 64 i)
-    ∷ (8, not (dominates (c .request .level) (c .row .level)))
+    ∷ (8, not (dominates (c .order) (c .request .level) (c .row .level)))
     ∷ (2, isSignalled cells (c .me))
     ∷ (9, isCertified (c .seat .standing))
     ∷ []

@@ -29,10 +29,11 @@ pub enum Ruling {
     Refuse(u8),
 }
 
-// What the judge is shown of a house, beside its cells: of the request's level the eight places and the next ticket, of its item
-// the row and the pending value.
+// What the judge is shown of a house, beside its cells: the order of the levels, of the request's level the eight places and the next
+// ticket, of its item the row and the pending value.
 pub struct View {
     pub count: usize,
+    pub order: [u8; 16],
     pub eight: [Place; 8],
     pub ticket: u32,
     pub row: Item,
@@ -43,6 +44,7 @@ pub struct View {
 pub struct Case {
     pub request: Request,
     pub count: usize,
+    pub order: [u8; 16],
     pub row: Item,
     pub pending: u32,
     pub me: usize,

@@ -34,10 +34,10 @@ untouched-known U =
       closed = tt;
     }
 
-pub opening-untouched : (levels : List ℕ) → Untouched (opening levels .house)
-opening-untouched levels =
-    let K = opening-has levels in
-    record { sizes = K .sizes; free = opening-free levels; clear = λ p i b a. K .idle p i b a (opening-free levels p b) }
+pub opening-untouched : (levels table : List ℕ) → Untouched (opening levels table .house)
+opening-untouched levels table =
+    let K = opening-has levels table in
+    record { sizes = K .sizes; free = opening-free levels table; clear = λ p i b a. K .idle p i b a (opening-free levels table p b) }
 
 -- and where it comes to: the past is the trace, turned round
 known : {t : Table} {h : House} {past : Past} → Known t h past → (qs : List Request) → Known t (finally h qs) (reverseAux (trace h qs) past)
@@ -152,7 +152,7 @@ untouched-demand h U qs =
     rw r (serially-past (table h) _ past past (I .closed) (I .repeats) ∙ ap (λ x. (map (λ n. answers (work n (reverse past))) (commits (reverse past)), x)) (I .ends))
 
 pub demand : OfOpened
-demand levels qs = untouched-demand (opening levels .house) (opening-untouched levels) qs
+demand levels table qs = untouched-demand (opening levels table .house) (opening-untouched levels table) qs
 
 -- Requests that come in two parts
 

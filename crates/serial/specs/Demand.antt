@@ -109,4 +109,4 @@ abbrev pub OfUntouched : Type 0
 OfUntouched = (h : House) → Untouched h → (qs : List Request) → Demand3 h qs
 
 abbrev pub OfOpened : Type 0
-OfOpened = (levels : List ℕ) (qs : List Request) → Demand3 (opening levels .house) qs
+OfOpened = (levels table : List ℕ) (qs : List Request) → Demand3 (opening levels table .house) qs

@@ -93,6 +93,6 @@ events-asked h (c ∷ cs) f b =
 
 pub over-bytes : OverBytes
 unfolding Demand3OverBytes Demand3
-over-bytes levels cs b =
-    let h = opening levels .house in
-    rw (events-asked h cs (opening-fits levels) b, calls-are-requests h cs .1) (demand levels (askedBy cs))
+over-bytes levels order cs b =
+    let h = opening levels order .house in
+    rw (events-asked h cs (opening-fits levels order) b, calls-are-requests h cs .1) (demand levels order (askedBy cs))

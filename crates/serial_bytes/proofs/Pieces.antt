@@ -12,13 +12,14 @@ use Rattle.house.specs.declared.House.{House}
 use Rattle.house.specs.declared.Item.{Item}
 use Rattle.house.specs.Search.{mapFrom}
 use Rattle.house.specs.House.{blank}
+use Rattle.house.specs.Order.{oldChain}
 use Rattle.house.specs.Opening.{rowAt, rows, opened, opening}
 use Rattle.house.specs.Run.{replies}
 use Rattle.house.proofs.Tests.{is}
 use Rattle.wire.specs.Wire.{replyAt, replyBytes}
 use Rattle.desk.specs.Turn.{requests, wired}
 use Rattle.desk.proofs.Laws.{length-wired}
-use Rattle.dialogue.specs.Dialogue.{levels, header, refusal}
+use Rattle.dialogue.specs.Dialogue.{levels, table as tableOf, header, openingOf, refusal}
 use Rattle.dialogue.specs.Pieces.{runOf, pastOpening, programmed, joined}
 use Rattle.dialogue.specs.Rounds.{brought}
 use Rattle.dialogue.proofs.Pieces.{in-pieces}
@@ -42,12 +43,12 @@ unfolding mapFrom rowAt
 rows-blank levels k [] = refl
 rows-blank levels k (x ∷ xs) = ap (λ t. (0, 0) ∷ t) (rows-blank levels (suc k) xs)
 
-opened-blank : (levels : List ℕ) → table (opened levels) ≡ blankTable
+opened-blank : (levels order : List ℕ) → table (opened levels order) ≡ blankTable
 unfolding opened rows
-opened-blank levels = rows-blank levels 0 (replicate 64 blank)
+opened-blank levels order = rows-blank levels 0 (replicate 64 blank)
 
-opening-blank : (levels : List ℕ) → table (opening levels .house) ≡ blankTable
-opening-blank levels = opening-cases (λ h. table h ≡ blankTable) levels (λ K. opened-blank levels) (opened-blank [])
+opening-blank : (levels order : List ℕ) → table (opening levels order .house) ≡ blankTable
+opening-blank levels order = opening-cases (λ h. table h ≡ blankTable) levels order (λ P O. opened-blank levels order) (opened-blank [] oldChain)
 
 -- NOBODY COMMITTED
 
@@ -66,31 +67,31 @@ one-reply : (n k : ℕ) → min k (length (refusal n) / 16) ≤ 1
 unfolding refusal replyBytes
 one-reply n k = omega arith
 
-refused-equal : (input : List ℕ) (n : ℕ) (levels : List ℕ) → n ≢ 0 → Equal (seen input (refusal n)) (opening levels .house)
+refused-equal : (input : List ℕ) (n : ℕ) (levels order : List ℕ) → n ≢ 0 → Equal (seen input (refusal n)) (opening levels order .house)
 unfolding seen
-refused-equal input n levels d = idle _ (opening levels .house) (refused-idle _ n _ d (one-reply n _)) (opening-blank levels)
+refused-equal input n levels order d = idle _ (opening levels order .house) (refused-idle _ n _ d (one-reply n _)) (opening-blank levels order)
 
 -- THE OPENING WAS DONE
 
-opened-equal : (input levels : List ℕ) → Bytes input → Equal (seen input (runOf (opening levels .house) (pastOpening input) .0)) (runOf (opening levels .house) (pastOpening input) .1)
+opened-equal : (input levels order : List ℕ) → Bytes input → let h = opening levels order .house in Equal (seen input (runOf h (pastOpening input) .0)) (runOf h (pastOpening input) .1)
 unfolding seen runOf Demand3
-opened-equal input levels s =
-    let h = opening levels .house in
+opened-equal input levels order s =
+    let h = opening levels order .house in
     let asked = pastOpening input in
     let n = length asked / 12 in
     let all : min n (length (wired (replies h (requests n asked))) / 16) ≡ n = rw (length-wired h n asked) (omega arith) in
-    let t : exchanged (requests n asked) (wired (replies h (requests n asked))) ≡ trace h (requests n asked) = rw (append-nil (wired (replies h (requests n asked)))) at (turn-trace n h asked [] (opening-fits levels) (bytes-drop (header input) input s)) in
-    rw (all, t, sym (opening-blank levels)) (demand levels (requests n asked))
+    let t : exchanged (requests n asked) (wired (replies h (requests n asked))) ≡ trace h (requests n asked) = rw (append-nil (wired (replies h (requests n asked)))) at (turn-trace n h asked [] (opening-fits levels order) (bytes-drop (header input) input s)) in
+    rw (all, t, sym (opening-blank levels order)) (demand levels order (requests n asked))
 
 -- THE THEOREM
 
 programmed-equal : (input : List ℕ) → Bytes input → Equal (seen input (programmed input .0)) (programmed input .1)
 unfolding programmed
 programmed-equal input s =
-    let o = opening (levels input) in
+    let o = openingOf input in
     elim (is (eqb (o .number) 0)) [
-      | inl z ↦ rw z (opened-equal input (levels input) s)
-      | inr z ↦ rw z (refused-equal input (o .number) (levels input) (eqb-false (o .number) 0 z))
+      | inl z ↦ rw z (opened-equal input (levels input) (tableOf input) s)
+      | inr z ↦ rw z (refused-equal input (o .number) (levels input) (tableOf input) (eqb-false (o .number) 0 z))
     ]
 
 pub over-pieces : OverPieces

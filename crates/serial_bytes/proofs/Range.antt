@@ -6,7 +6,7 @@ use mathlib.Core.Path.{_≡_, refl}
 use mathlib.Core.Logic.{_≢_, inl, inr}
 use mathlib.Core.Bool.{Bool, _||_}
 use mathlib.Core.List.{List, []}
-use lib.ListN.{getD}
+use lib.ListN.{length, getD}
 use lib.Dec.{ltb}
 use borrow.Author.Tests.{ltb-true}
 use Rattle.house.specs.declared.Found.{Found}
@@ -20,10 +20,12 @@ use Rattle.house.specs.Search.{scan, count, ifFound}
 use Rattle.house.specs.Cell.{holds, firstSignalled, countSignalled}
 use Rattle.house.specs.House.{Sizes, itemAt, pendingAt, placeAt, nextAt}
 use Rattle.house.specs.Rules.{ticketAfter, grown, begun, readBy, readAnswer, readFor, writtenBy, certifiedBy, droppedPending, left, committedItem, committedBy, abortedBy, askAnswer, said, replied, stepped}
+use Rattle.house.specs.Order.{oldChain}
 use Rattle.house.specs.Opening.{opened, opening}
 use Rattle.house.proofs.Tests.{is, same}
 use Rattle.house.proofs.Searches.{find-below}
 use Rattle.house.proofs.Holders.{holder-at}
+use Rattle.house.proofs.Levels.{oldChain-long}
 use Rattle.house.proofs.Openings.{opened-sizes, opened-item, opened-pending, opened-place, opened-next}
 use Rattle.house.proofs.Effects.{begun-sizes, begun-next, begun-next-other, begun-place, begun-place-other, certified-place, certified-place-other, left-place, left-place-other, read-sizes, written-sizes, written-pending, written-pending-other, certified-sizes, left-sizes, left-pending, committed-sizes, committed-item}
 use Rattle.wire.specs.Wire.{requestAt}
@@ -178,17 +180,17 @@ step-fits {h} f q k = turn-fits f q k (stepped h q) (turn h q)
 
 -- Where it starts, and what is asked
 
-pub opening-fits : (levels : List ℕ) → Fits (opening levels .house)
-opening-fits levels = opening-cases Fits levels (λ K. opened-fits levels) (opened-fits [])
+pub opening-fits : (levels order : List ℕ) → Fits (opening levels order .house)
+opening-fits levels order = opening-cases Fits levels order (λ P O. opened-fits levels order (P .whole)) (opened-fits [] oldChain oldChain-long)
   where
-    opened-fits : (l : List ℕ) → Fits (opened l)
-    opened-fits l =
+    opened-fits : (l o : List ℕ) → length o ≡ 16 → Fits (opened l o)
+    opened-fits l o z =
         record {
-          sizes = opened-sizes l;
-          items = λ i a. rw (opened-item l i a) (record { value = omega arith; version = omega arith });
-          pending = λ i a. rw (opened-pending l i a) (omega arith);
-          tickets = λ p b. rw (opened-place l p b) (omega arith);
-          next = λ k b. rw (opened-next l k b) (omega arith);
+          sizes = opened-sizes l o z;
+          items = λ i a. rw (opened-item l o i a) (record { value = omega arith; version = omega arith });
+          pending = λ i a. rw (opened-pending l o i a) (omega arith);
+          tickets = λ p b. rw (opened-place l o p b) (omega arith);
+          next = λ k b. rw (opened-next l o k b) (omega arith);
         }
 
 pub request-fits : (b : List ℕ) → ((k : ℕ) → getD b k 0 < 256) → FitRequest (requestAt b 0)

@@ -44,4 +44,4 @@ Demand3OverBytes h cs =
 
 -- THE STATEMENT: of every opened house, refused openings included; whatever each turn and each map is given
 abbrev pub OverBytes : Type 0
-OverBytes = (levels : List ℕ) (cs : List Call) → InBytes cs → Demand3OverBytes (opening levels .house) cs
+OverBytes = (levels order : List ℕ) (cs : List Call) → InBytes cs → Demand3OverBytes (opening levels order .house) cs

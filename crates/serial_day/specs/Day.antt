@@ -1,4 +1,5 @@
--- Demand 3 on a small day: both sides of its equation, worked out. Items 0 and 1 at level 0, item 2 at level 2.
+-- Demand 3 on a small day: both sides of its equation, worked out. Items 0 and 1 at level 0, item 2 at level 2, in the order of
+-- the diamond.
 -- Assumes nothing.
 use Prim.Native.Nat.{ℕ}
 use mathlib.Core.Path.{_≡_}
@@ -7,6 +8,7 @@ use lib.ListN.{take}
 use Rattle.house.specs.declared.House.{House}
 use Rattle.house.specs.declared.Request.{Request}
 use Rattle.house.specs.Rules.{begin, read, write, certify, commit, abort}
+use Rattle.house.specs.Order.{diamond}
 use Rattle.house.specs.Opening.{opening}
 use Rattle.house.specs.Run.{finally}
 use Rattle.serial.specs.Demand.{Event, trace, work, commits, Row, Table, table, answers, serially}
@@ -60,7 +62,7 @@ day =
     ∷ []
 
 abbrev pub start : House
-start = opening (0 ∷ 0 ∷ 2 ∷ []) .house
+start = opening (0 ∷ 0 ∷ 2 ∷ []) diamond .house
 
 abbrev pub requests : List Request
 requests = map (λ e. e .0) day

@@ -16,6 +16,7 @@ use ruling::View;
 pub fn step(h: House, q: Request) -> Outcome
     ensures { λ r. ⌜ r ≡ stepped h q ⌝ }
 {
+    let order = h.order;
     let level = (q.level % 4) as usize;
     let ticket = h.next[level];
     let item = (q.item % 64) as usize;
@@ -32,6 +33,7 @@ pub fn step(h: House, q: Request) -> Outcome
     let p7 = h.places[b + 7];
     let view = View {
         count: h.count,
+        order,
         eight: [p0, p1, p2, p3, p4, p5, p6, p7],
         ticket,
         row,

@@ -63,7 +63,7 @@ module _ (k : Change) (fit : fits k ≡ true) where
 
     module _ (z : Sizes h) where
       -- the cells swept, and the place certified
-      pub certified-is : (me : ℕ) → k ≡ Certify me → (cells : List ℕ) → cells ≡ swept (certifiedCell (h .cells) (me % 32)) (h .cells)
+      pub certified-is : (me : ℕ) → k ≡ Certify me → (cells : List ℕ) → cells ≡ swept (certifiedCell (h .order) (h .cells) (me % 32)) (h .cells)
           → (place : Place) → place ≡ record { standing = Certified; ticket = placeAt (h .places) me .ticket } → withPlace (withCells h cells) me place ≡ effect h k
       unfolding certifiedBy
       certified-is me e cells c place p = rw (e, c, mod-eq-of-lt (certify-there me e), swept-whole _ _ (z .cells), p)

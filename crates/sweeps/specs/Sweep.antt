@@ -2,11 +2,12 @@
 -- proofs/Whole.antt).
 -- Assumes nothing.
 use Prim.Native.Nat.{ℕ}
-use mathlib.Core.Bool.{cond}
+use mathlib.Core.Bool.{cond, _&&_}
 use mathlib.Core.List.{List}
 use lib.Dec.{eqb, ltb}
-use Rattle.house.specs.Cell.{mapCells}
-use Rattle.house.specs.Rules.{convertedCell}
+use Rattle.house.specs.declared.Mark.the-variants.{Read, Signalled}
+use Rattle.house.specs.Cell.{has, marked, mapCells}
+use Rattle.house.specs.House.{levelOf}
 
 -- a cell of the 32 places through f, any other as it is
 unfoldable pub ofHouse : (ℕ → ℕ → ℕ → ℕ) → ℕ → ℕ → ℕ → ℕ
@@ -15,6 +16,10 @@ ofHouse f p i c = cond (ltb p 32) (f p i c) c
 unfoldable pub swept : (ℕ → ℕ → ℕ → ℕ) → List ℕ → List ℕ
 swept f cells = mapCells (ofHouse f) cells
 
--- all cells of item i, which `me` has written, once `me` has certified
-unfoldable pub convertedOn : ℕ → ℕ → ℕ → ℕ → ℕ → ℕ
-convertedOn me i p j c = cond (eqb j i) (convertedCell me p c) c
+-- the cells of item i through f, which is told their place, any other as it is
+unfoldable pub onItem : ℕ → (ℕ → ℕ → ℕ) → ℕ → ℕ → ℕ → ℕ
+onItem i f p j c = cond (eqb j i) (f p c) c
+
+-- the cell c of place p: a read lock held from level l is marked signalled
+unfoldable pub signalledFrom : ℕ → ℕ → ℕ → ℕ
+signalledFrom l p c = cond (eqb (levelOf p) l && has Read c) (marked Signalled c) c

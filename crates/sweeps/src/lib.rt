@@ -6,14 +6,15 @@ ghost use mathlib.Core.Path.{_≡_};
 ghost use mathlib.Core.Bool.{cond, _||_};
 ghost use Prim.Native.Nat.{_<_, _%_};
 ghost use lib.ListN.{getD};
-ghost use Rattle.house.specs.declared.Mark.the-variants.{Write, Certify};
+ghost use Rattle.house.specs.declared.Mark.the-variants.{Read, Write, Certify, Signalled};
 ghost use Rattle.house.specs.Search.{any, mapFrom};
-ghost use Rattle.house.specs.Cell.{has, withMark, holds};
+ghost use Rattle.house.specs.Cell.{has, marked, withMark, holds};
 ghost use Rattle.house.specs.House.{above, levelOf};
 ghost use Rattle.house.specs.Rules.{signalledCell, convertedCell, certifiedCell, clearedCell, committedItem, droppedPending, grown};
-ghost use Rattle.sweeps.specs.Sweep.{swept, convertedOn};
+ghost use Rattle.sweeps.specs.Sweep.{swept, onItem, signalledFrom};
 use house::Item;
 use house::Mark;
+use parts::dominates;
 use parts::grow;
 use parts::has_mark;
 use parts::holds_any;
@@ -28,41 +29,57 @@ pub fn mark_cell(cells: &mut [u8; 2048], m: Mark, me: usize, i: usize)
     cells[n] = with_mark(m, c);
 }
 
-fn is_above(p: usize, me: usize) -> bool
-    ensures { λ r. ⌜ r ≡ above (levelOf p) (levelOf me) ⌝ }
+fn signal(c: u8) -> u8
+    ensures { λ r. ⌜ r ≡ cond (has Read c) (marked Signalled c) c ⌝ }
 {
-    let a = p / 8;
-    let b = me / 8;
-    (b <= a) & (a != b)
-}
-
-fn signal(me: usize, p: usize, c: u8) -> u8
-    ensures { λ r. ⌜ r ≡ signalledCell me p c ⌝ }
-{
-    if is_above(p, me) & has_mark(Mark::Read, c) {
-        return with_mark(Mark::Signalled, c);
+    if has_mark(Mark::Read, c) {
+        with_mark(Mark::Signalled, c)
+    } else {
+        c
     }
-    c
 }
 
-fn convert(me: usize, p: usize, c: u8) -> u8
-    ensures { λ r. ⌜ r ≡ convertedCell me p c ⌝ }
+// The places of a level are eight in a row.
+fn signal_level(cells: &mut [u8; 2048], l: usize, i: usize)
+    requires { ⌜ (l < 4) × (i < 64) ⌝ }
+    ensures { λ r. ⌜ now (cells .exit) ≡ swept (onItem i (signalledFrom l)) (now (cells .entry)) ⌝ }
 {
-    if p == me {
-        return with_mark(Mark::Certify, without_mark(Mark::Write, c));
-    }
-    signal(me, p, c)
-}
-
-fn certify_item(cells: &mut [u8; 2048], me: usize, i: usize)
-    requires { ⌜ i < 64 ⌝ }
-    ensures { λ r. ⌜ now (cells .exit) ≡ swept (convertedOn me i) (now (cells .entry)) ⌝ }
-{
-    for p in 0..32 {
-        let n = p * 64 + i;
+    for k in 0..8 {
+        let n = (l * 8 + k) * 64 + i;
         let c = cells[n];
-        cells[n] = convert(me, p, c);
+        cells[n] = signal(c);
     }
+}
+
+fn is_above(order: [u8; 16], l: usize, me: usize) -> bool
+    requires { ⌜ (l < 4) × (me < 32) ⌝ }
+    ensures { λ r. ⌜ r ≡ above order l (levelOf me) ⌝ }
+{
+    let a = l as u8;
+    let b = (me / 8) as u8;
+    dominates(order, a, b) & (a != b)
+}
+
+// The order is looked up once for a level, and the cells of the levels above are all that is looked at.
+fn signal_item(cells: &mut [u8; 2048], order: [u8; 16], me: usize, i: usize)
+    requires { ⌜ (me < 32) × (i < 64) ⌝ }
+    ensures { λ r. ⌜ now (cells .exit) ≡ swept (onItem i (signalledCell order me)) (now (cells .entry)) ⌝ }
+{
+    for l in 0..4 {
+        if is_above(order, l, me) {
+            signal_level(cells, l, i);
+        }
+    }
+}
+
+fn certify_item(cells: &mut [u8; 2048], order: [u8; 16], me: usize, i: usize)
+    requires { ⌜ (me < 32) × (i < 64) ⌝ }
+    ensures { λ r. ⌜ now (cells .exit) ≡ swept (onItem i (convertedCell order me)) (now (cells .entry)) ⌝ }
+{
+    let n = me * 64 + i;
+    let c = cells[n];
+    cells[n] = with_mark(Mark::Certify, without_mark(Mark::Write, c));
+    signal_item(cells, order, me, i);
 }
 
 // The cell at n is the place's own.
@@ -74,16 +91,17 @@ fn is_marked(cells: &[u8; 2048], m: Mark, n: usize) -> bool
 }
 
 // Who has written nothing converts nothing.
-pub fn certify_cells(cells: &mut [u8; 2048], me: usize)
-    ensures { λ r. ⌜ now (cells .exit) ≡ swept (certifiedCell (now (cells .entry)) (me % 32)) (now (cells .entry)) ⌝ }
+pub fn certify_cells<'a>(cells: &'a mut [u8; 2048], order: &'a [u8; 16], me: usize)
+    ensures { λ r. ⌜ now (cells .exit) ≡ swept (certifiedCell (now (order .entry)) (now (cells .entry)) (me % 32)) (now (cells .entry)) ⌝ }
 {
     let here = me % 32;
     if !holds_any(cells, Mark::Write, me) {
         return;
     }
+    let table = *order;
     for i in 0..64 {
         if is_marked(cells, Mark::Write, here * 64 + i) {
-            certify_item(cells, here, i);
+            certify_item(cells, table, here, i);
         }
     }
 }

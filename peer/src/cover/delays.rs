@@ -1,6 +1,7 @@
 //! Who holds it (CR 5): the delays that have to be met, so that a desk that names the holder by
 //! another rule, or tells it in another way, gives another reply.
 
+use super::{print_met, unmet};
 use crate::desk::{delayed_by, Desk, Place};
 use crate::wire::{Operation, Reply, Request};
 use std::io::{self, Write};
@@ -47,7 +48,8 @@ impl<'a> Delay<'a> {
     }
 
     fn is_read_above(&self, item: usize) -> bool {
-        self.readers(item).any(|place| self.house.places[place].level > self.request.level)
+        let is_above = |place: &Place| self.house.order.is_above(place.level, self.request.level);
+        self.readers(item).any(|place| is_above(&self.house.places[place]))
     }
 
     /// What the asker seeks to certify.
@@ -108,15 +110,11 @@ impl Delays {
 
     pub fn print(&self, out: &mut impl Write) -> io::Result<()> {
         writeln!(out, "\nrequests delayed")?;
-        for ((name, _), count) in MEETS.iter().zip(self.0) {
-            writeln!(out, "{name}: {count}")?;
-        }
-        Ok(())
+        print_met(out, "", &MEETS, &self.0)
     }
 
-    pub fn faults(&self) -> impl Iterator<Item = String> {
-        let missing = MEETS.iter().zip(self.0).filter(|(_, count)| *count == 0);
-        missing.map(|((name, _), _)| format!("never delayed: {name}"))
+    pub fn faults(&self) -> impl Iterator<Item = String> + '_ {
+        unmet(&MEETS, &self.0).map(|name| format!("never delayed: {name}"))
     }
 }
 

@@ -4,6 +4,7 @@
 use super::*;
 use crate::bytes::input_of;
 use crate::generator::Generator;
+use crate::order::levels;
 use crate::run::opened;
 use crate::wire::{requests_in, split_header};
 
@@ -27,9 +28,9 @@ fn plain(desk: &mut Desk, operation: Operation, level: u8, ticket: u32) -> u8 {
     desk.answer(&request(operation, level, ticket)).number
 }
 
-/// Items 0 and 1 at level 0, item 2 at level 2, and nobody there.
+/// Items 0 and 1 at level 0, item 2 at level 2, the old chain, and nobody there.
 fn empty_house() -> Desk {
-    Desk::open(&[0, 0, 2]).expect("a proper list of levels")
+    Desk::open(&[0, 0, 2], &Order::CHAIN.table()).expect("proper levels and a proper table")
 }
 
 /// The house of the marked examples: level-0 tickets 1 and 2 and level-2 ticket 1 are open.
@@ -269,10 +270,78 @@ fn neither_the_asker_nor_a_reader_above_is_named() {
 
 #[test]
 fn openings() {
-    assert_eq!(Desk::open(&[]), Err(Refusal::ItemCount));
-    assert_eq!(Desk::open(&[9; 65]), Err(Refusal::ItemCount), "13 is checked before 14");
-    assert_eq!(Desk::open(&[0, 4]), Err(Refusal::LevelByte));
-    assert_eq!(Desk::open(&[3; 64]).map(|desk| desk.items.len()), Ok(64));
+    let proper = Order::DIAMOND.table();
+    assert_eq!(Desk::open(&[], &proper), Err(Refusal::ItemCount));
+    assert_eq!(Desk::open(&[9; 65], &proper), Err(Refusal::ItemCount), "13 is checked before 14");
+    for length in [0, 1, 15, 17, 32, 255] {
+        let table = vec![2; length];
+        assert_eq!(Desk::open(&[0, 4], &table), Err(Refusal::ItemCount), "a table of {length}");
+    }
+    assert_eq!(Desk::open(&[0, 4], &proper), Err(Refusal::LevelByte));
+    assert_eq!(Desk::open(&[0, 4], &[2; 16]), Err(Refusal::LevelByte), "14 is checked before 16");
+    assert_eq!(Desk::open(&[0, 3], &[2; 16]), Err(Refusal::NoOrder));
+    let desk = Desk::open(&[3; 64], &proper).expect("a house that opens");
+    assert_eq!((desk.items.len(), desk.order), (64, Order::DIAMOND));
+    assert_eq!((Desk::refused().items.len(), Desk::refused().order), (0, Order::CHAIN));
+}
+
+/// Two subjects side by side: one item at each level, and one of each level is open.
+fn diamond() -> Desk {
+    let mut desk = Desk::open(&[0, 1, 2, 3], &Order::DIAMOND.table()).expect("a house that opens");
+    levels().for_each(|level| assert_eq!(begin(&mut desk, level).ticket, 1));
+    desk
+}
+
+#[test]
+fn geography_and_history_do_not_read_each_other() {
+    for level in levels() {
+        let numbers: Vec<u8> =
+            levels().map(|item| read(&mut diamond(), level, 1, item.into()).number).collect();
+        let wanted = [[0, 8, 8, 8], [0, 0, 8, 8], [0, 8, 0, 8], [0, 0, 0, 0]];
+        assert_eq!(numbers, wanted[usize::from(level)], "level {level}");
+    }
+    let mut desk = diamond();
+    assert_eq!(write(&mut desk, 3, 1, 1, 7), 8, "a write is of the asker's own level only");
+}
+
+/// Which levels a certify at this level signals, where everybody has read what they may.
+fn signalled_by(level: u8) -> Vec<u8> {
+    let mut desk = diamond();
+    for (reader, item) in levels().flat_map(|reader| levels().map(move |item| (reader, item))) {
+        read(&mut desk, reader, 1, item.into());
+    }
+    assert_eq!(write(&mut desk, level, 1, level.into(), 7), 0);
+    assert_eq!(plain(&mut desk, Operation::Certify, level, 1), 0);
+    let is_signalled = |reader: &u8| {
+        let ask = desk.clone().answer(&request(Operation::Ask, *reader, 1));
+        (ask.value, ask.item) == (1, level.into())
+    };
+    levels().filter(is_signalled).collect()
+}
+
+#[test]
+fn a_certify_signals_whoever_is_above_by_the_table() {
+    assert_eq!(signalled_by(0), [1, 2, 3]);
+    assert_eq!(signalled_by(1), [3]);
+    assert_eq!(signalled_by(2), [3]);
+    assert_eq!(signalled_by(3), []);
+}
+
+/// The old chain gives the old replies: levels are compared by number.
+#[test]
+fn the_old_chain_is_document_01() {
+    for (level, other) in levels().flat_map(|level| levels().map(move |other| (level, other))) {
+        let mut desk = Desk::open(&[other], &Order::CHAIN.table()).expect("a house that opens");
+        begin(&mut desk, level);
+        let number = if other > level { 8 } else { 0 };
+        assert_eq!(read(&mut desk, level, 1, 0).number, number, "{level} reads {other}");
+        let writer = begin(&mut desk, other).ticket;
+        assert_eq!(write(&mut desk, other, writer, 0, 7), 0);
+        let delayed = u8::from(level == other);
+        assert_eq!(plain(&mut desk, Operation::Certify, other, writer), delayed);
+        let signals = desk.answer(&request(Operation::Ask, level, 1)).value;
+        assert_eq!(signals, u32::from(other < level), "{level} reads {other}");
+    }
 }
 
 /// What holds of every house that a run can reach.
@@ -291,7 +360,8 @@ fn check_house(desk: &Desk) {
 
 /// True when no transaction but this one is open at its level or below.
 fn is_undisturbed(desk: &Desk, request: &Request) -> bool {
-    let near = |place: &&Place| place.is_taken() && place.level <= request.level;
+    let is_near = |level| desk.order.dominates(request.level, level);
+    let near = |place: &&Place| place.is_taken() && is_near(place.level);
     desk.places.iter().filter(near).all(|p| (p.level, p.ticket) == (request.level, request.ticket))
 }
 
@@ -314,7 +384,7 @@ const GOES_WITH: [[bool; 4]; 4] = [
 
 /// The lock that the request asks for on the item, if any.
 fn requested(desk: &Desk, request: &Request, me: &Place, item: usize) -> Option<Lock> {
-    let is_below = desk.items[item].level < me.level;
+    let is_below = desk.order.is_above(me.level, desk.items[item].level);
     let is_named = item == usize::from(request.item);
     match Operation::ALL[usize::from(request.operation)] {
         Operation::Read if is_named && is_below => Some(Lock::Signal),
@@ -328,7 +398,7 @@ fn requested(desk: &Desk, request: &Request, me: &Place, item: usize) -> Option<
 /// Whether a place has a lock on the item that does not go with the one requested.
 fn is_refused_by(desk: &Desk, place: &Place, item: usize, requested: Lock) -> bool {
     let Cell { read, write, certify, .. } = place.cell(item);
-    let is_below = desk.items[item].level < place.level;
+    let is_below = desk.order.is_above(place.level, desk.items[item].level);
     let granted = [read && !is_below, write, read && is_below, certify];
     granted.iter().zip(GOES_WITH[requested as usize]).any(|(granted, goes)| *granted && !goes)
 }
@@ -361,7 +431,8 @@ fn every_run_keeps_the_house_in_order() {
                 assert!(!is_undisturbed(&before, &request), "delayed alone");
                 let named = holder_in(&reply);
                 assert_eq!(Some(named), holder_by_matrix(&before, &request), "not by the matrix");
-                assert!(named.1 <= request.level.into(), "the holder is above the asker");
+                let is_near = before.order.dominates(request.level, named.1 as u8);
+                assert!(is_near, "the holder is not at the asker's level or below");
             }
             check_house(&desk);
         }

@@ -1,14 +1,18 @@
 //! A case of `maps`: a house, what is asked in it before the map, the map, and what is asked after.
 
-use crate::desk::{Desk, Place, Refusal, Standing, LEVELS};
-use crate::generator::{at_or_above, header_of, strange_item, Generator};
+use super::Open;
+use crate::desk::{Desk, Place, Standing, LEVELS};
+use crate::generator::{at_or_above, header_of, spoil, strange_item, Generator};
 use crate::rng::Rng;
-use crate::wire::{Operation, Request, REPLY_BYTES, REQUEST_BYTES};
+use crate::wire::{split_opening, Operation, Request, REPLY_BYTES, REQUEST_BYTES};
 
 /// Lengths of lists that even seeds step through: on either side of what one part of a map may
 /// hold, wherever a desk reads it in parts of up to 64 or 128. Odd seeds take any up to the last.
 pub const LENGTHS: [usize; 10] = [0, 1, 2, 63, 64, 65, 127, 128, 129, 200];
 const LONGEST: usize = LENGTHS[LENGTHS.len() - 1];
+
+/// Lengths of tables that are refused. Every eighth seed has one of them.
+pub const TABLE_LENGTHS: [usize; 6] = [15, 17, 0, 32, 1, 255];
 
 /// How many requests at most go on until there is the reader that is sought.
 const LONGEST_WAIT: usize = 400;
@@ -33,8 +37,8 @@ impl Map {
 
 #[derive(Clone, Debug, PartialEq, Eq)]
 pub struct Case {
-    /// The bytes that open the house.
-    pub header: Vec<u8>,
+    pub levels: Vec<u8>,
+    pub table: Vec<u8>,
     /// Whole requests.
     pub before: Vec<u8>,
     pub map: Map,
@@ -48,7 +52,7 @@ impl Case {
     pub fn of_seed(seed: u64) -> Case {
         let mut rng = Rng::new(seed ^ OWN_STREAM);
         let mut generator = Generator::new(seed);
-        let header = header_of(generator.desk());
+        let (levels, table) = opening(seed, &mut rng, generator.desk());
         let mut before = stretch(&mut generator, rng.below(200));
         let (level, ticket) = reader(&mut rng, &mut generator, &mut before);
         let even = LENGTHS[(seed / 2) as usize % LENGTHS.len()];
@@ -60,26 +64,33 @@ impl Case {
             generator.follow(&map.read(item));
         }
         let after = after(&mut rng, generator, &map);
-        Case { header, before, map, room, after }
+        Case { levels, table, before, map, room, after }
     }
 
-    /// The house as opened.
-    pub fn house(&self) -> Result<Desk, Refusal> {
-        Desk::open(&self.header[1..])
+    /// The number of the opening, and the house it yields.
+    pub fn house(&self, open: Open) -> (u8, Desk) {
+        match open(&self.levels, &self.table) {
+            Ok(desk) => (0, desk),
+            Err(refusal) => (refusal.number(), Desk::refused()),
+        }
     }
 
     /// The same asked by single requests: the first `handled` items of the map as reads.
     pub fn by_single_requests(&self, handled: usize) -> Vec<u8> {
         let items = self.map.items.iter().take(handled);
         let reads = items.flat_map(|&item| self.map.read(item).to_bytes()).collect();
-        [self.header.clone(), self.before.clone(), reads, self.after.clone()].concat()
+        [self.before.clone(), reads, self.after.clone()].concat()
     }
 
     /// The bytes of a case; `bench/maps.c` says how they lie.
     pub fn to_bytes(&self) -> Vec<u8> {
-        let Case { header, before, map, room, after } = self;
+        let Case { levels, table, before, map, room, after } = self;
         let two = |number: usize| (number as u16).to_le_bytes();
-        let mut bytes = header.clone();
+        let mut bytes = Vec::new();
+        for part in [levels, table] {
+            bytes.push(part.len() as u8);
+            bytes.extend(part);
+        }
         bytes.push(map.level);
         bytes.extend(map.ticket.to_le_bytes());
         bytes.extend(two(map.items.len()));
@@ -93,8 +104,8 @@ impl Case {
 
     /// None where the bytes end too early.
     pub fn from_bytes(bytes: &[u8]) -> Option<Case> {
-        let levels = 1 + usize::from(*bytes.first()?);
-        let (header, rest) = bytes.split_at_checked(levels)?;
+        let (levels, rest) = counted(bytes)?;
+        let (table, rest) = counted(rest)?;
         let (&[level], rest) = rest.split_first_chunk::<1>()?;
         let (&ticket, rest) = rest.split_first_chunk::<4>()?;
         let (items, rest) = two_bytes(rest)?;
@@ -104,14 +115,32 @@ impl Case {
         let (before, after) = rest.split_at_checked(REQUEST_BYTES * before)?;
         let items = items.chunks_exact(2).map(|item| u16::from_le_bytes([item[0], item[1]]));
         let map = Map { level, ticket: u32::from_le_bytes(ticket), items: items.collect() };
-        let (header, before, after) = (header.to_vec(), before.to_vec(), after.to_vec());
-        Some(Case { header, before, map, room, after })
+        let (levels, table) = (levels.to_vec(), table.to_vec());
+        let (before, after) = (before.to_vec(), after.to_vec());
+        Some(Case { levels, table, before, map, room, after })
     }
+}
+
+/// Bytes behind one that counts them.
+fn counted(bytes: &[u8]) -> Option<(&[u8], &[u8])> {
+    let (&count, rest) = bytes.split_first()?;
+    rest.split_at_checked(count.into())
 }
 
 fn two_bytes(bytes: &[u8]) -> Option<(usize, &[u8])> {
     let (&number, rest) = bytes.split_first_chunk::<2>()?;
     Some((u16::from_le_bytes(number).into(), rest))
+}
+
+/// The levels and the table of the house, or in two seeds of eight such as are refused: those of a
+/// spoiled header, or a table of another length. The requests stay those of the house.
+fn opening(seed: u64, rng: &mut Rng, desk: &Desk) -> (Vec<u8>, Vec<u8>) {
+    let mut header = header_of(desk);
+    spoil(seed, rng, &mut header);
+    let (_, levels, table) = split_opening(&header);
+    let length = TABLE_LENGTHS[(seed / 8) as usize % TABLE_LENGTHS.len()];
+    let length = if seed % 8 == 6 { length } else { table.len() };
+    (levels.to_vec(), table.iter().copied().cycle().take(length).collect())
 }
 
 /// The bytes of the generator's next requests.
@@ -126,7 +155,8 @@ fn certified_items(desk: &Desk) -> Vec<u16> {
 }
 
 fn up_to_level<'a>(desk: &'a Desk, items: &'a [u16], level: u8) -> impl Iterator<Item = u16> + 'a {
-    items.iter().copied().filter(move |&item| desk.items[usize::from(item)].level <= level)
+    let level_of = |item: u16| desk.items[usize::from(item)].level;
+    items.iter().copied().filter(move |&item| desk.order.dominates(level, level_of(item)))
 }
 
 /// Which of the open transactions are sought to read a map.
@@ -268,8 +298,9 @@ mod tests {
     fn the_bytes_lie_as_the_program_reads_them() {
         let map = Map { level: 3, ticket: 0x07060504, items: vec![0x0908, 1] };
         let (before, after) = (vec![5; REQUEST_BYTES], vec![6; 2]);
-        let case = Case { header: vec![2, 0, 1], before, map, room: 0x0102, after };
-        let start = [2, 0, 1, 3, 4, 5, 6, 7, 2, 0, 8, 9, 1, 0, 2, 1, 1, 0];
+        let (levels, table) = (vec![0, 1], vec![1, 1, 2]);
+        let case = Case { levels, table, before, map, room: 0x0102, after };
+        let start = [2, 0, 1, 3, 1, 1, 2, 3, 4, 5, 6, 7, 2, 0, 8, 9, 1, 0, 2, 1, 1, 0];
         let bytes = [&start[..], &[5; REQUEST_BYTES], &[6; 2]].concat();
         assert_eq!(case.to_bytes(), bytes);
         // All but the requests after the map has to be there.

@@ -1,20 +1,32 @@
-//! The slips that CR 2 invites, made on purpose: a map call that behaves but for one slip.
+//! The slips that CR 2 invites, and those of an opening that no input on the wire shows (CR 6), made
+//! on purpose: a map call that behaves but for one slip.
 
-use super::{read_map, Call, Map};
-use crate::desk::{Desk, MOST_ITEMS};
+use super::{read_map, Call, Conduct, Map, Open};
+use crate::desk::{Desk, Refusal, MOST_ITEMS};
+use crate::order::TABLE_BYTES;
 use crate::wire::REPLY_BYTES;
 
-pub const SLIPS: [(&str, Call); 9] = [
-    ("leaves the last item out", leaves_last_out),
-    ("stops after a refusal", stops_after_refusal),
-    ("gives no reply where it refuses", skips_refused),
-    ("reports the list's length", reports_length),
-    ("uses a reply place that is not whole", uses_unfinished_place),
-    ("clears the bytes past the last reply", clears_rest),
-    ("takes no lock", takes_no_lock),
-    ("handles no more items than a house has", handles_a_house),
-    ("keeps the locks of the last 64 reads only", keeps_last_part),
+pub const SLIPS: [(&str, Conduct); 11] = [
+    ("leaves the last item out", reads(leaves_last_out)),
+    ("stops after a refusal", reads(stops_after_refusal)),
+    ("gives no reply where it refuses", reads(skips_refused)),
+    ("reports the list's length", reads(reports_length)),
+    ("uses a reply place that is not whole", reads(uses_unfinished_place)),
+    ("clears the bytes past the last reply", reads(clears_rest)),
+    ("takes no lock", reads(takes_no_lock)),
+    ("handles no more items than a house has", reads(handles_a_house)),
+    ("keeps the locks of the last 64 reads only", reads(keeps_last_part)),
+    ("takes the first 16 bytes of a longer table", opens(takes_longer_table)),
+    ("goes by a shorter table as if zeros followed", opens(fills_shorter_table)),
 ];
+
+const fn reads(call: Call) -> Conduct {
+    Conduct { open: Desk::open, call }
+}
+
+const fn opens(open: Open) -> Conduct {
+    Conduct { open, call: read_map }
+}
 
 /// The map of these items only.
 fn with_items(map: &Map, items: &[u16]) -> Map {
@@ -75,4 +87,13 @@ fn keeps_last_part(desk: &mut Desk, map: &Map, replies: &mut [u8]) -> usize {
         count += read_map(desk, &with_items(map, items), places);
     }
     count
+}
+
+fn takes_longer_table(levels: &[u8], table: &[u8]) -> Result<Desk, Refusal> {
+    Desk::open(levels, &table[..table.len().min(TABLE_BYTES)])
+}
+
+fn fills_shorter_table(levels: &[u8], table: &[u8]) -> Result<Desk, Refusal> {
+    let zeros = vec![0; TABLE_BYTES.saturating_sub(table.len())];
+    Desk::open(levels, &[table, &zeros].concat())
 }

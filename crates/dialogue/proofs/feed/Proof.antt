@@ -1,7 +1,7 @@
 -- `fed` goes by the stage and then by a test, as the code does: `staged` takes the branch of the stage that was matched,
 -- `followed` that of the test, and the call there promises what is left.
 use borrow.Author.Needs.{needs}
-use Rattle.house.proofs.Branches.{followed, answered}
+use Rattle.house.proofs.Branches.{followed}
 use Rattle.dialogue.specs.Dialogue.{fed}
 use Rattle.dialogue.proofs.Stages.{staged}
 use Rattle.dialogue.proofs.feed.Statement.{statement}
@@ -14,7 +14,7 @@ is-decided-requires : tie.Need-is-decided-requires
 is-decided-requires c κs = search needs
 
 open-and-serve-requires : tie.Need-open-and-serve-requires
-open-and-serve-requires c κs = search answered
+open-and-serve-requires c κs = search needs
 
 same-length : tie.Need-same-length
 same-length c = search needs

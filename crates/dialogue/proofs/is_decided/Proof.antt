@@ -6,9 +6,15 @@ use Rattle.dialogue.specs.Dialogue.{decided}
 first-requires : tie.Need-first-requires
 first-requires c κs = search needs
 
+add-result : tie.Need-add-result
+add-result c = search needs
+
+is-hopeless-requires : tie.Need-is-hopeless-requires
+is-hopeless-requires c κs = search needs
+
 returns : tie.Need-returns
 unfolding decided
-returns c = rw (c .first .ensures .0)
+returns c = cc
 
 pub is-decided-spec : {M : Type 1} → statement M
-is-decided-spec = tie.close (tie.spec first-requires returns)
+is-decided-spec = tie.close (tie.spec first-requires add-result is-hopeless-requires returns)

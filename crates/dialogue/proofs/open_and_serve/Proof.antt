@@ -1,31 +1,16 @@
 use borrow.Author.Needs.{needs}
-use Rattle.dialogue.proofs.Laws.{levels-end, levels-fit, opened-past, opens-open, opens-refused}
+use Rattle.dialogue.proofs.Laws.{opened-past, opens-open, opens-refused}
 use Rattle.dialogue.proofs.open_and_serve.Statement.{statement}
 use Rattle.dialogue.proofs.open_and_serve.Tie as tie
+
+open-front-requires : tie.Need-open-front-requires
+open-front-requires c κs = search needs
 
 first-requires : tie.Need-first-requires
 first-requires c κs = search needs
 
-level-count-requires : tie.Need-level-count-requires
-level-count-requires c κs = search needs
-
-add-end : tie.Need-add-end
-add-end c = search levels-fit
-
-sub-open : tie.Need-sub-open
-sub-open c = search needs
-
-part-open-start : tie.Need-part-open-start
-part-open-start c = search needs
-
-part-open-end : tie.Need-part-open-end
-part-open-end c = search levels-end
-
-open-requires : tie.Need-open-requires
-open-requires c κs = search needs
-
-add-serve : tie.Need-add-serve
-add-serve c = search needs
+add-k : tie.Need-add-k
+add-k c = search needs
 
 serve-requires : tie.Need-serve-requires
 serve-requires c κs = search (needs, opened-past)
@@ -43,14 +28,9 @@ pub open-and-serve-spec : {M : Type 1} → statement M
 open-and-serve-spec =
     tie.close
     (tie.spec
+    open-front-requires
     first-requires
-    level-count-requires
-    add-end
-    sub-open
-    part-open-start
-    part-open-end
-    open-requires
-    add-serve
+    add-k
     serve-requires
     same-length
     returns

@@ -6,6 +6,9 @@ use Rattle.dialogue.specs.Dialogue.{started}
 slice-aggregate-open : tie.Need-slice-aggregate-open
 slice-aggregate-open c = search needs
 
+slice-aggregate-open-2 : tie.Need-slice-aggregate-open-2
+slice-aggregate-open-2 c = search needs
+
 open-requires : tie.Need-open-requires
 open-requires c κs = search needs
 
@@ -14,4 +17,4 @@ unfolding started
 returns c = rw (c .before .open .ensures)
 
 pub start-spec : {M : Type 1} → statement M
-start-spec = tie.close (tie.spec slice-aggregate-open open-requires returns)
+start-spec = tie.close (tie.spec slice-aggregate-open slice-aggregate-open-2 open-requires returns)

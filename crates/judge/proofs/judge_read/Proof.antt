@@ -3,7 +3,7 @@
 use borrow.Author.Needs.{needs}
 use Rattle.house.proofs.Branches.{followed, answered}
 use Rattle.house.specs.Rules.{hinders}
-use Rattle.judge.proofs.Laws.{held, unheld, granted, listed}
+use Rattle.judge.proofs.Laws.{allowed, forbidden, held, unheld, granted, listed}
 use Rattle.ruling.specs.Judged.{readRuled}
 use Rattle.judge.proofs.judge_read.Statement.{statement}
 use Rattle.judge.proofs.judge_read.Tie as tie
@@ -18,26 +18,26 @@ returns : tie.Need-returns
 unfolding readRuled hinders
 returns c = search followed depth 20
 
-does-not-dominate-requires : tie.Need-does-not-dominate-requires
-does-not-dominate-requires c κs = search needs
+dominates-requires : tie.Need-dominates-requires
+dominates-requires c κs = search needs
 
 returns-2 : tie.Need-returns-2
 unfolding readRuled hinders
-returns-2 c = search followed depth 20
+returns-2 c = search (followed, forbidden) depth 20
 
 is-signalled-requires : tie.Need-is-signalled-requires
 is-signalled-requires c κs = search needs
 
 returns-3 : tie.Need-returns-3
 unfolding readRuled hinders
-returns-3 c = search followed depth 20
+returns-3 c = search (followed, allowed) depth 20
 
 is-certified-requires : tie.Need-is-certified-requires
 is-certified-requires c κs = search needs
 
 returns-4 : tie.Need-returns-4
 unfolding readRuled hinders
-returns-4 c = search followed depth 20
+returns-4 c = search (followed, allowed) depth 20
 
 other-holds-requires : tie.Need-other-holds-requires
 other-holds-requires c κs = search (needs, listed)
@@ -48,7 +48,7 @@ lowest-holder-requires c κs = search (needs, listed, answered)
 
 returns-5 : tie.Need-returns-5
 unfolding readRuled hinders
-returns-5 c = search (followed, held) depth 20
+returns-5 c = search (followed, allowed, held) depth 20
 
 answer-read-requires : tie.Need-answer-read-requires
 answer-read-requires c κs = search (needs, listed)
@@ -58,7 +58,7 @@ grant-requires c κs = search needs
 
 returns-6 : tie.Need-returns-6
 unfolding readRuled hinders
-returns-6 c = search (followed, unheld, granted) depth 20
+returns-6 c = search (followed, allowed, unheld, granted) depth 20
 
 pub judge-read-spec : {M : Type 1} → statement M
 judge-read-spec =
@@ -67,7 +67,7 @@ judge-read-spec =
     cast-i
     lacks-item-requires
     returns
-    does-not-dominate-requires
+    dominates-requires
     returns-2
     is-signalled-requires
     returns-3

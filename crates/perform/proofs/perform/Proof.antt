@@ -25,7 +25,7 @@ came c = search
 
 -- the lists are as long as the arrays
 sizes : (c : tie.Start) → Sizes (c .args .h)
-sizes c = record { items = search (needs, length-mapped); pending = search needs; places = search (needs, length-mapped); next = search needs; cells = search needs }
+sizes c = record { order = search needs; items = search (needs, length-mapped); pending = search needs; places = search (needs, length-mapped); next = search needs; cells = search needs }
 
 fit : (c : tie.Else1) → fits (came c .args .change) ≡ true
 fit c = sym (c .before .is-fit .ensures) ∙ not-false _ (c .if1 .left)

@@ -1,11 +1,7 @@
-use borrow.Author.Needs.{needs}
 use Rattle.house.proofs.Branches.{followed}
-use Rattle.house.specs.Rules.{signalledCell}
+use borrow.Author.Needs.{needs}
 use Rattle.sweeps.proofs.signal.Statement.{statement}
 use Rattle.sweeps.proofs.signal.Tie as tie
-
-is-above-requires : tie.Need-is-above-requires
-is-above-requires c κs = search needs
 
 has-mark-requires : tie.Need-has-mark-requires
 has-mark-requires c κs = search needs
@@ -14,13 +10,10 @@ with-mark-requires : tie.Need-with-mark-requires
 with-mark-requires c κs = search needs
 
 returns : tie.Need-returns
-unfolding signalledCell
 returns c = search followed
 
 returns-2 : tie.Need-returns-2
-unfolding signalledCell
 returns-2 c = search followed
 
 pub signal-spec : {M : Type 1} → statement M
-signal-spec =
-    tie.close (tie.spec is-above-requires has-mark-requires with-mark-requires returns returns-2)
+signal-spec = tie.close (tie.spec has-mark-requires with-mark-requires returns returns-2)

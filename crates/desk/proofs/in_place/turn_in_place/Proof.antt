@@ -64,7 +64,7 @@ promised c = c .judge .ensures
 
 -- the lists are as long as the arrays, from round to round
 came-sized : (c : tie.Start Inv-loop μ-loop) → Sizes (c .args .h)
-came-sized c = record { items = search (needs, length-mapped); pending = search needs; places = search (needs, length-mapped); next = search needs; cells = search needs }
+came-sized c = record { order = search needs; items = search (needs, length-mapped); pending = search needs; places = search (needs, length-mapped); next = search needs; cells = search needs }
 
 sizes : (c : tie.After-judge Inv-loop μ-loop) → Sizes (held c)
 sizes c = rw (round c .loop .inv .2) (finally-keeps Sizes stepped-sizes _ (came-sized (lent c)) _)

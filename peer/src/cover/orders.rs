@@ -1,0 +1,149 @@
+//! What levels mean to each other (CR 6): what has to be met, so that a desk that goes by the numbers
+//! of levels, or by the table in another way, gives another reply.
+
+use super::{print_met, unmet};
+use crate::desk::{Desk, Place, Refusal};
+use crate::order::Order;
+use crate::wire::{Operation, Reply, Request};
+use std::io::{self, Write};
+
+/// A request with the houses before and after it.
+pub struct Moment<'a> {
+    pub before: &'a Desk,
+    pub after: &'a Desk,
+    pub request: &'a Request,
+    pub reply: Reply,
+}
+
+impl Moment<'_> {
+    fn order(&self) -> Order {
+        self.before.order
+    }
+
+    fn is_done(&self, operation: Operation) -> bool {
+        self.request.is(operation) && self.reply.number == 0
+    }
+
+    /// The level of the asker and that of the item, of a read that got this number.
+    fn read(&self, number: u8) -> Option<(u8, u8)> {
+        let item = self.before.items.get(usize::from(self.request.item))?;
+        let is_meant = self.request.is(Operation::Read) && self.reply.number == number;
+        is_meant.then_some((self.request.level, item.level))
+    }
+
+    fn is_barred(&self, fits: impl Fn(u8, u8) -> bool) -> bool {
+        let levels = self.read(Refusal::WrongLevel.number());
+        levels.is_some_and(|(level, item)| fits(level, item))
+    }
+
+    /// Whether a done certify has signalled one of such a level.
+    fn signals(&self, fits: impl Fn(u8) -> bool) -> bool {
+        let mut places = self.before.places.iter().zip(&self.after.places);
+        let has_more = |(old, new): (&Place, &Place)| {
+            fits(new.level) && new.signalled().len() > old.signalled().len()
+        };
+        self.is_done(Operation::Certify) && places.any(has_more)
+    }
+
+    /// Whether one of such a level, who has read something, sees a done certify of a write.
+    fn is_beside(&self, fits: impl Fn(u8) -> bool) -> bool {
+        let reads = |place: &Place| place.cells.values().any(|cell| cell.read);
+        let writes = !self.before.written_by(self.request).is_empty();
+        let mut others = self.before.places.iter().filter(|place| fits(place.level));
+        self.is_done(Operation::Certify) && writes && others.any(reads)
+    }
+}
+
+/// One of the things that have to be met.
+type Meets = fn(&Moment) -> bool;
+
+const MEETS: [(&str, Meets); 10] = [
+    ("a read of an item above refused by 8", |at| {
+        at.is_barred(|level, item| at.order().is_above(item, level))
+    }),
+    ("a read of an item above with a smaller number refused by 8", |at| {
+        at.is_barred(|level, item| at.order().is_above(item, level) && item < level)
+    }),
+    ("a read between incomparable levels refused by 8, of a larger number", |at| {
+        at.is_barred(|level, item| at.order().are_apart(level, item) && item > level)
+    }),
+    ("a read between incomparable levels refused by 8, of a smaller number", |at| {
+        at.is_barred(|level, item| at.order().are_apart(level, item) && item < level)
+    }),
+    ("a done read of an item of a lower level with a larger number", |at| {
+        at.read(0).is_some_and(|(level, item)| item > level)
+    }),
+    ("a delayed read of an item of a lower level with a larger number", |at| {
+        at.read(Refusal::Delayed.number()).is_some_and(|(level, item)| item > level)
+    }),
+    ("a done certify that signals one above", |at| at.signals(|above| above > at.request.level)),
+    ("a done certify that signals one above with a smaller number", |at| {
+        at.signals(|above| above < at.request.level)
+    }),
+    ("a done certify that signals level 0 above level 3", |at| {
+        at.request.level == 3 && at.signals(|above| above == 0)
+    }),
+    ("a done certify beside a reader of an incomparable level", |at| {
+        at.is_beside(|level| at.order().are_apart(level, at.request.level))
+    }),
+];
+
+/// How often each was met.
+#[derive(Default)]
+pub struct Orders([u64; MEETS.len()]);
+
+impl Orders {
+    pub fn note(&mut self, moment: &Moment) {
+        for (count, (_, is_met)) in self.0.iter_mut().zip(MEETS) {
+            *count += u64::from(is_met(moment));
+        }
+    }
+
+    pub fn print(&self, out: &mut impl Write) -> io::Result<()> {
+        writeln!(out, "\nrequests by what levels mean to each other")?;
+        print_met(out, "", &MEETS, &self.0)
+    }
+
+    pub fn faults(&self) -> impl Iterator<Item = String> + '_ {
+        unmet(&MEETS, &self.0).map(|name| format!("never met: {name}"))
+    }
+}
+
+#[cfg(test)]
+mod tests {
+    use super::*;
+    use crate::desk::tests::house_and_last;
+
+    /// Which of `MEETS` the last of the requests meets, by their numbers from 0 on, in a house with
+    /// one item at each level, where one of each is open.
+    fn met(order: &str, requests: &str) -> Vec<usize> {
+        let open = format!("open 0 1 2 3 order {order}\nbegin 0\nbegin 1\nbegin 2\nbegin 3\n");
+        let (before, request) = house_and_last(&format!("{open}{}", requests.replace("; ", "\n")));
+        let mut after = before.clone();
+        let reply = after.answer(&request);
+        let moment = Moment { before: &before, after: &after, request: &request, reply };
+        (0..MEETS.len()).filter(|&number| MEETS[number].1(&moment)).collect()
+    }
+
+    #[test]
+    fn each_is_met_where_it_should_be() {
+        // Examiners at level 3, and the same turned over, with examiners at level 0.
+        let (up, down) = ("0<1<3 0<2<3", "3<1<0 3<2<0");
+        let certified = "write 3 #1 item 3 = 7; certify 3 #1";
+        let cases: [(&str, &str, &[usize]); 10] = [
+            (up, "read 0 #1 item 3", &[0]),
+            (down, "read 3 #1 item 0", &[0, 1]),
+            (up, "read 1 #1 item 2", &[2]),
+            (down, "read 2 #1 item 1", &[3]),
+            (up, "read 3 #1 item 0", &[]),
+            (down, "read 0 #1 item 3", &[4]),
+            (down, &format!("{certified}; read 0 #1 item 3"), &[5]),
+            (up, "read 2 #1 item 0; write 0 #1 item 0 = 7; certify 0 #1", &[6]),
+            (down, &format!("read 0 #1 item 3; {certified}"), &[7, 8]),
+            (up, "read 2 #1 item 2; write 1 #1 item 1 = 7; certify 1 #1", &[9]),
+        ];
+        for (order, requests, meets) in cases {
+            assert_eq!(met(order, requests), meets, "{order}: {requests}");
+        }
+    }
+}
