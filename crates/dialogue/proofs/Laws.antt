@@ -10,19 +10,19 @@ use lib.ListN.{length, take, drop, length-take, length-drop}
 use lib.Dec.{eqb, ltb, leb}
 use borrow.Author.Tests.{leb-true, leb-false, ltb-false, ne-eqb}
 use Rattle.house.specs.declared.Opening.{Opening}
-use Rattle.house.specs.Opening.{wrongLength, wrongTable, openVerdict, opening}
+use Rattle.house.specs.Opening.{wrongCount, wrongLength, wrongTable, openVerdict, opening}
 use Rattle.house.proofs.Tests.{is, or-left, or-right, or-false, not-of}
 use Rattle.dialogue.specs.declared.Fed.{Fed}
 use Rattle.dialogue.specs.declared.Stage.the-variants.{Refused}
-use Rattle.dialogue.specs.Dialogue.{announced, header, levels, table, openingOf, hopeless, decided, drops, serves, opens}
+use Rattle.dialogue.specs.Dialogue.{announced, header, levels, table, openingOf, decided, drops, serves, opens}
 
 -- no levels are refused, and with them whatever is of a wrong length
 pub no-levels : opening [] [] .number ≡ 13
-unfolding opening openVerdict wrongLength
+unfolding opening openVerdict wrongCount
 no-levels = refl
 
 misfit : (l t : List ℕ) → (wrongLength l || wrongTable t) ≡ true → opening l t ≡ opening [] []
-unfolding opening openVerdict wrongLength
+unfolding opening openVerdict wrongCount
 misfit l t e = rw e
 
 -- all of an opening came, or it is cut short: then it is refused so
@@ -35,9 +35,9 @@ cut-short b s =
     let rest = drop (announced b + 1) b in
     misfit (levels b) (table b) (or-right (wrongLength (levels b)) _ (not-of _ (ne-eqb (length (table b)) 16 (λ e. omega (arith, length-take 16 rest, length-drop (announced b + 1) b)))))
 
--- and one whose number is hopeless, whether it came or not
-pub none-hoped : (b : List ℕ) → hopeless (announced b) ≡ true → openingOf b ≡ opening [] []
-unfolding hopeless wrongLength
+-- and one whose number is wrongCount, whether it came or not
+pub none-hoped : (b : List ℕ) → wrongCount (announced b) ≡ true → openingOf b ≡ opening [] []
+unfolding wrongCount
 none-hoped b y =
     elim (came b) [
       | inl come ↦
@@ -52,9 +52,9 @@ opened-there b o = elim (came b) [ inl come ↦ come | inr short ↦ absurd (ome
 
 -- of what is not decided more is to come, and it is little
 pub undecided : (b : List ℕ) → decided b ≡ false → (length b < header b) × (length b ≤ 80)
-unfolding decided hopeless
+unfolding decided wrongCount
 undecided b n =
-    let u = or-false (leb (header b) (length b)) (ltb 0 (length b) && hopeless (announced b)) n in
+    let u = or-false (leb (header b) (length b)) (ltb 0 (length b) && wrongCount (announced b)) n in
     let short = leb-false (header b) (length b) (u .0) in
     elim (is (ltb 0 (length b))) [
       | inl some ↦ (short, omega (arith, short, ltb-false 64 (announced b) (or-false (eqb (announced b) 0) (ltb 64 (announced b)) (rw some at (u .1)) .1)))

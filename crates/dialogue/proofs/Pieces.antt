@@ -11,7 +11,7 @@ use lib.Seq.{length-take-le, getD-take, take-at, drop-at, drop-drop, drop-append
 use lib.Dec.{eqb, ltb, leb}
 use borrow.Author.Tests.{eqb-true, ltb-true, leb-true}
 use Rattle.house.specs.declared.House.{House}
-use Rattle.house.specs.Opening.{opening}
+use Rattle.house.specs.Opening.{wrongCount, opening}
 use Rattle.house.specs.Run.{finally, replies}
 use Rattle.house.proofs.Runs.{finally-append}
 use Rattle.house.proofs.Tests.{is, and-true, or-elim}
@@ -21,7 +21,7 @@ use Rattle.desk.proofs.TwoTurns.{requests-append}
 use Rattle.dialogue.specs.declared.Fed.{Fed}
 use Rattle.dialogue.specs.declared.Dialogue.{Dialogue}
 use Rattle.dialogue.specs.declared.Stage.the-variants.{Waiting, Refused}
-use Rattle.dialogue.specs.Dialogue.{announced, header, hopeless, decided, refusal, atStage, started, ended, drops, serves, opens, fed, openingOf}
+use Rattle.dialogue.specs.Dialogue.{announced, header, decided, refusal, atStage, started, ended, drops, serves, opens, fed, openingOf}
 use Rattle.dialogue.specs.Pieces.{runOf, pastOpening, programmed, Piece, joined, farewell, conversed, Enough, Roomy, InPieces, LeavesLittle}
 use Rattle.dialogue.proofs.Laws.{no-levels, cut-short, none-hoped, opened-there, undecided}
 use Rattle.dialogue.proofs.Stages.{waiting, opened, refused, at-stage}
@@ -85,10 +85,10 @@ module _ (b rest : List ℕ) where
   opening-append : decided b ≡ true → openingOf (b ++ rest) ≡ openingOf b
   unfolding decided
   opening-append d =
-      or-elim (leb (header b) (length b)) (ltb 0 (length b) && hopeless (announced b)) d
+      or-elim (leb (header b) (length b)) (ltb 0 (length b) && wrongCount (announced b)) d
       (λ y. came-append (leb-true (header b) (length b) y))
       (λ y.
-      let k = and-true (ltb 0 (length b)) (hopeless (announced b)) y in
+      let k = and-true (ltb 0 (length b)) (wrongCount (announced b)) y in
       none-hoped (b ++ rest) (rw (announced-append (ltb-true 0 (length b) (k .0))) (k .1)) ∙ sym (none-hoped b (k .1)))
 
   programmed-open : decided b ≡ true → openingOf b .number ≡ 0 → programmed (b ++ rest) ≡ runOf (openingOf b .house) (drop (header b) b ++ rest)

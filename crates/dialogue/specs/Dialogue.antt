@@ -11,7 +11,7 @@ use lib.ListN.{length, getD, take, drop}
 use lib.Dec.{eqb, ltb, leb}
 use Rattle.house.specs.declared.House.{House}
 use Rattle.house.specs.declared.Opening.{Opening}
-use Rattle.house.specs.Opening.{opening}
+use Rattle.house.specs.Opening.{wrongCount, opening}
 use Rattle.wire.specs.Wire.{replyBytes}
 use Rattle.desk.specs.Turn.{turned, answered}
 use Rattle.dialogue.specs.declared.Fed.{Fed}
@@ -42,13 +42,9 @@ table bytes = take 16 (drop (announced bytes + 1) bytes)
 abbrev pub openingOf : List ℕ → Opening
 openingOf bytes = opening (levels bytes) (table bytes)
 
--- "length 0 or above 64", refused whatever follows
-unfoldable pub hopeless : ℕ → Bool
-hopeless n = eqb n 0 || ltb 64 n
-
--- all of the opening came; or n did, and is hopeless
+-- all of the opening came; or n did, and is refused whatever follows
 unfoldable pub decided : List ℕ → Bool
-decided bytes = leb (header bytes) (length bytes) || (ltb 0 (length bytes) && hopeless (announced bytes))
+decided bytes = leb (header bytes) (length bytes) || (ltb 0 (length bytes) && wrongCount (announced bytes))
 
 -- "one reply of that number with all else zero"
 unfoldable pub refusal : ℕ → List ℕ

@@ -4,8 +4,8 @@
 ghost use mathlib.Core.Path.{_≡_};
 ghost use Prim.Native.Nat.{_+_, _≤_, _<_, min};
 ghost use lib.ListN.{length, drop};
-ghost use Rattle.house.specs.Opening.{opening};
-ghost use Rattle.dialogue.specs.Dialogue.{announced, openingOf, hopeless, decided, refusal, started, ended, serves, opens, fed, kept, heard};
+ghost use Rattle.house.specs.Opening.{wrongCount};
+ghost use Rattle.dialogue.specs.Dialogue.{announced, openingOf, decided, refusal, started, ended, serves, opens, fed, kept, heard};
 use desk::turn;
 use house::House;
 use house::Opening;
@@ -84,8 +84,8 @@ fn first(bytes: &[u8]) -> usize
 }
 
 // A number of levels that is refused, whatever follows it.
-fn is_hopeless(n: usize) -> bool
-    ensures { λ r. ⌜ r ≡ hopeless n ⌝ }
+fn is_wrong_count(n: usize) -> bool
+    ensures { λ r. ⌜ r ≡ wrongCount n ⌝ }
 {
     (n == 0) | (64 < n)
 }
@@ -94,7 +94,7 @@ fn is_decided(bytes: &[u8]) -> bool
     ensures { λ r. ⌜ r ≡ decided (now (bytes .entry)) ⌝ }
 {
     let n = first(bytes);
-    (n + 17 <= bytes.len()) | ((0 < bytes.len()) & is_hopeless(n))
+    (n + 17 <= bytes.len()) | ((0 < bytes.len()) & is_wrong_count(n))
 }
 
 // What is cut short is opened as no levels and no table, which gets 13 as well.

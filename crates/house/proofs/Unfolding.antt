@@ -7,7 +7,7 @@ use Rattle.house.specs.Matrix.{readLock}
 use Rattle.house.specs.House.{dominates, above, fixed, freeAt, hasTicket, seek, vacancy}
 use Rattle.house.specs.Order.{oldChain, diamond, large, loose, tied, broken, wrongAt, disordered}
 use Rattle.house.specs.Rules.{noOperation, noLevel, unusedSet, unknown, noItem, forbidden, blankSheet, stopped, untimely, wornOut, crowded, ticketless, anotherClaims, peerReads, hinders, wants, holderOn, conflict, delayed, refusals, checks, verdict, ticketAfter, grown, begun, readBy, readAnswer, writtenBy, signalledCell, convertedCell, certifiedCell, certifiedBy, droppedPending, clearedCell, left, committedItem, askAnswer, served, performed, unserved, stepped}
-use Rattle.house.specs.Opening.{wrongLength, highAt, wrongLevel, wrongTable, openVerdict, rowAt, rows, opened, opening}
+use Rattle.house.specs.Opening.{wrongCount, highAt, wrongLevel, wrongTable, openVerdict, rowAt, rows, opened, opening}
 use Rattle.house.specs.Run.{finally, replies, trace}
 
 -- the list of the checks, and the test of each
@@ -26,7 +26,7 @@ unfolding ticketAfter grown begun readBy readAnswer writtenBy signalledCell conv
 effects = tt
 
 openings : Unit {0}
-unfolding wrongLength highAt wrongLevel wrongTable large loose tied broken wrongAt disordered oldChain diamond openVerdict rowAt rows opened opening
+unfolding wrongCount highAt wrongLevel wrongTable large loose tied broken wrongAt disordered oldChain diamond openVerdict rowAt rows opened opening
 openings = tt
 
 -- all of them, and a run

@@ -14,8 +14,11 @@ use Rattle.house.specs.Order.{oldChain, disordered}
 use Rattle.house.specs.Checks.{foremost}
 
 -- "length 0 or above 64"
-unfoldable pub wrongLength : List ℕ → Bool
-wrongLength levels = eqb (length levels) 0 || ltb 64 (length levels)
+unfoldable pub wrongCount : ℕ → Bool
+wrongCount n = eqb n 0 || ltb 64 n
+
+abbrev pub wrongLength : List ℕ → Bool
+wrongLength levels = wrongCount (length levels)
 
 -- "a byte above 3", and whether the list has one
 unfoldable pub highAt : List ℕ → ℕ → Bool

@@ -13,7 +13,7 @@ use Rattle.house.specs.declared.House.{House}
 use Rattle.house.specs.House.{placeAt, isFree}
 use Rattle.house.specs.Checks.{foremost}
 use Rattle.house.specs.Order.{PartialOrder, disordered, oldChain}
-use Rattle.house.specs.Opening.{wrongLength, highAt, wrongLevel, wrongTable, openVerdict, opened, opening}
+use Rattle.house.specs.Opening.{wrongCount, wrongLength, highAt, wrongLevel, wrongTable, openVerdict, opened, opening}
 use Rattle.house.proofs.Tests.{is, clash, refuted, and-true, or-false, not-is}
 use Rattle.house.proofs.Searches.{any-none, any-some}
 use Rattle.house.proofs.Levels.{ordered, undisordered, oldChain-long, oldChain-ordered}
@@ -27,7 +27,7 @@ use Rattle.reach.proofs.Kept.{kept, finally-keeps}
 module _ (levels table : List ℕ) where
   -- the checks 13 and 14 are passed exactly by what is passable
   passable : (wrongLength levels || wrongTable table) ≡ false → wrongLevel levels ≡ false → Passable levels table
-  unfolding wrongLength wrongTable wrongLevel highAt
+  unfolding wrongCount wrongTable wrongLevel highAt
   passable e f =
       let k = or-false (wrongLength levels) (wrongTable table) e in
       let l = or-false (eqb (length levels) 0) (ltb 64 (length levels)) (k .0) in
@@ -40,7 +40,7 @@ module _ (levels table : List ℕ) where
 
   module _ (P : Passable levels table) where
     right-sizes : (wrongLength levels || wrongTable table) ≡ false
-    unfolding wrongLength wrongTable
+    unfolding wrongCount wrongTable
     right-sizes = rw (ne-eqb (length levels) 0 (P .some), le-ltb 64 (length levels) (P .few), eq-eqb (length table) 16 (P .whole))
 
     right-levels : wrongLevel levels ≡ false

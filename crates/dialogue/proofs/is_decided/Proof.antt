@@ -9,12 +9,12 @@ first-requires c κs = search needs
 add-result : tie.Need-add-result
 add-result c = search needs
 
-is-hopeless-requires : tie.Need-is-hopeless-requires
-is-hopeless-requires c κs = search needs
+is-wrong-count-requires : tie.Need-is-wrong-count-requires
+is-wrong-count-requires c κs = search needs
 
 returns : tie.Need-returns
 unfolding decided
 returns c = cc
 
 pub is-decided-spec : {M : Type 1} → statement M
-is-decided-spec = tie.close (tie.spec first-requires add-result is-hopeless-requires returns)
+is-decided-spec = tie.close (tie.spec first-requires add-result is-wrong-count-requires returns)
