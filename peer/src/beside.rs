@@ -3,10 +3,11 @@
 
 use crate::bytes::input_of;
 use crate::compare::{answer_of, refused_opening};
+use crate::opening::split_header;
 use crate::run::opened;
 use crate::stop::Stop;
 use crate::strike::{Struck, STRUCK, WHOLE};
-use crate::wire::{hex, replies_in, requests_in, split_header, Reply};
+use crate::wire::{hex, replies_in, requests_in, Reply};
 use crate::words;
 use std::io::Write;
 

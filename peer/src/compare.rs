@@ -2,11 +2,12 @@
 
 use crate::desk::Desk;
 use crate::generator;
+use crate::opening::split_header;
 use crate::program::Program;
 use crate::progress::each_seed;
 use crate::run::{answer_whole, opened, output_for, replies_due, BY_THE_RULES};
 use crate::stop::Stop;
-use crate::wire::{hex, split_header, Reply, Request, REPLY_BYTES, REQUEST_BYTES};
+use crate::wire::{hex, Reply, Request, REPLY_BYTES, REQUEST_BYTES};
 use crate::words;
 use std::io::Write;
 use std::time::Duration;

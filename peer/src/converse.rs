@@ -2,15 +2,14 @@
 //! writes the next. A program that keeps replies back fails here by silence.
 
 use crate::desk::{Desk, Refusal};
-use crate::generator::{header_of, Generator};
+use crate::generator::Generator;
+use crate::opening::{split_header, Opening};
 use crate::order::{Order, TABLE_BYTES};
 use crate::program::Program;
 use crate::run::opened;
 use crate::stop::Stop;
 use crate::talk::{DAY_INPUT, DAY_OUTPUT};
-use crate::wire::{
-    header, hex, requests_in, split_header, Operation, Reply, Request, REPLY_BYTES, REQUEST_BYTES,
-};
+use crate::wire::{hex, requests_in, Operation, Reply, Request, REPLY_BYTES, REQUEST_BYTES};
 use crate::words;
 use std::io::Write;
 use std::time::Duration;
@@ -30,6 +29,10 @@ const SCENES: [(&str, Scene); 7] = [
     ("refused openings", refused_openings),
     ("input that ends too early", cut_short),
 ];
+
+fn header(levels: &[u8], table: &[u8]) -> Vec<u8> {
+    Opening::new(levels, table).header()
+}
 
 /// One request at a time, each reply checked against the peer's own desk.
 struct Client {
@@ -121,7 +124,7 @@ fn in_pieces(command: &str) -> Result<u64, Stop> {
     let mut asked = 0;
     for piece in [1, 2, 5, 11] {
         let mut generator = Generator::new(piece as u64);
-        let mut client = Client::open(command, &header_of(generator.desk()), piece)?;
+        let mut client = Client::open(command, &generator.desk().opening().header(), piece)?;
         for _ in 0..6 {
             client.ask_in_pieces(&generator.next_request(), piece)?;
         }
@@ -175,7 +178,7 @@ fn generated(command: &str) -> Result<u64, Stop> {
     let mut asked = 0;
     for seed in 1..=4 {
         let mut generator = Generator::new(seed);
-        let mut client = Client::open(command, &header_of(generator.desk()), 65)?;
+        let mut client = Client::open(command, &generator.desk().opening().header(), 65)?;
         for index in 0..300 {
             let piece = if index % 40 == 0 { 7 } else { REQUEST_BYTES };
             client.ask_in_pieces(&generator.next_request(), piece)?;
@@ -188,7 +191,7 @@ fn generated(command: &str) -> Result<u64, Stop> {
 /// Whole requests are answered though the one after them is unfinished.
 fn in_bursts(command: &str) -> Result<u64, Stop> {
     let mut generator = Generator::new(5);
-    let mut client = Client::open(command, &header_of(generator.desk()), 65)?;
+    let mut client = Client::open(command, &generator.desk().opening().header(), 65)?;
     for whole in 1..=20 {
         let requests: Vec<Request> = (0..=whole).map(|_| generator.next_request()).collect();
         let bytes: Vec<u8> = requests.iter().flat_map(|request| request.to_bytes()).collect();

@@ -6,10 +6,11 @@ mod orders;
 
 use crate::desk::{Desk, Place, Refusal, Standing, PLACES_PER_LEVEL};
 use crate::generator;
+use crate::opening::split_header;
 use crate::progress::each_seed;
 use crate::run::{opened, output_for, BY_THE_RULES};
 use crate::stop::Stop;
-use crate::wire::{split_header, Operation, Reply, Request, REQUEST_BYTES};
+use crate::wire::{Operation, Reply, Request, REQUEST_BYTES};
 use delays::{Delay, Delays};
 use openings::Openings;
 use orders::{Moment, Orders};

@@ -1,6 +1,7 @@
 //! The desk: the house of document 01 and its rules, with the change requests that have landed
 //! (CR 1, CR 5, CR 6), written as plainly as they stand there.
 
+use crate::opening::Opening;
 use crate::order::{Order, Table};
 use crate::wire::{Operation, Reply, Request};
 use std::collections::BTreeMap;
@@ -118,8 +119,9 @@ pub struct Desk {
 
 impl Desk {
     /// A table that is not 16 bytes long gives 13, as a wrong count of items does.
-    pub fn open(levels: &[u8], table: &[u8]) -> Result<Desk, Refusal> {
-        let table = Table::try_from(table).map_err(|_| Refusal::ItemCount)?;
+    pub fn open(opening: &Opening) -> Result<Desk, Refusal> {
+        let Opening { levels, table } = opening;
+        let table = Table::try_from(&table[..]).map_err(|_| Refusal::ItemCount)?;
         if levels.is_empty() || levels.len() > MOST_ITEMS {
             return Err(Refusal::ItemCount);
         }
@@ -310,6 +312,11 @@ impl Desk {
     /// The level of each item.
     pub fn levels(&self) -> Vec<u8> {
         self.items.iter().map(|item| item.level).collect()
+    }
+
+    /// What opens a house like this one.
+    pub fn opening(&self) -> Opening {
+        Opening::new(&self.levels(), &self.order.table())
     }
 
     /// The locks in the way of what the transaction at place `me` asks for, each by its item and

@@ -4,9 +4,10 @@
 mod openings;
 
 use crate::desk::{Desk, Item, Place, Standing, LEVELS, MOST_ITEMS};
+use crate::opening::Opening;
 use crate::order::{levels, Order};
 use crate::rng::Rng;
-use crate::wire::{header, Operation, Request, REQUEST_BYTES};
+use crate::wire::{Operation, Request, REQUEST_BYTES};
 pub use openings::spoil;
 use openings::{any_order, order_of};
 
@@ -300,15 +301,10 @@ fn proper_levels(rng: &mut Rng) -> Vec<u8> {
 
 fn proper_house(rng: &mut Rng, order: Order) -> Desk {
     loop {
-        if let Ok(desk) = Desk::open(&proper_levels(rng), &order.table()) {
+        if let Ok(desk) = Desk::open(&Opening::new(&proper_levels(rng), &order.table())) {
             return desk;
         }
     }
-}
-
-/// The bytes that open a house with the items and the order of this one.
-pub fn header_of(desk: &Desk) -> Vec<u8> {
-    header(&desk.levels(), &desk.order.table())
 }
 
 /// The whole input of a seed: a header and `requests` requests, sometimes with an unfinished one
@@ -317,7 +313,7 @@ pub fn input(seed: u64, requests: usize) -> Vec<u8> {
     let mut rng = Rng::new(seed);
     let order = order_of(seed, &mut rng);
     let desk = proper_house(&mut rng, order);
-    let mut bytes = header_of(&desk);
+    let mut bytes = desk.opening().header();
     if spoil(seed, &mut rng, &mut bytes) {
         return bytes;
     }
@@ -343,7 +339,7 @@ pub fn random_bytes(seed: u64) -> Vec<u8> {
     let mut bytes = Vec::new();
     if rng.one_in(2) {
         let order = any_order(&mut rng);
-        bytes = header_of(&proper_house(&mut rng, order));
+        bytes = proper_house(&mut rng, order).opening().header();
     }
     let is_small = rng.one_in(2);
     let small = |rng: &mut Rng| rng.below(4) as u8 * rng.below(3) as u8;

@@ -10,6 +10,7 @@ mod desk;
 mod generator;
 mod guide;
 mod maps;
+mod opening;
 mod order;
 mod program;
 mod progress;

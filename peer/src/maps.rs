@@ -11,6 +11,7 @@ pub use slips::SLIPS;
 use crate::compare::{compare_one, explain_in, first_difference, reply_at};
 use crate::cover::{self, check_met, print_met, unmet};
 use crate::desk::{Desk, Refusal};
+use crate::opening::Opening;
 use crate::progress::each_seed;
 use crate::run::answer_whole;
 use crate::stop::Stop;
@@ -18,8 +19,7 @@ use crate::wire::{hex, Operation, REPLY_BYTES};
 use case::{LENGTHS, TABLE_LENGTHS};
 use std::io::{self, Write};
 
-/// Opens a house of these levels and this table.
-pub type Open = fn(&[u8], &[u8]) -> Result<Desk, Refusal>;
+pub type Open = fn(&Opening) -> Result<Desk, Refusal>;
 /// Reads a map into the bytes lent for its replies, and gives the count of items handled.
 pub type Call = fn(&mut Desk, &Map, &mut [u8]) -> usize;
 
@@ -164,7 +164,7 @@ fn explain(case: &Case, ours: &Left, theirs: &[u8]) -> Option<String> {
 }
 
 fn words_for_openings(case: &Case, ours: u8, theirs: Option<&u8>) -> String {
-    let (levels, table) = (hex(&case.levels), hex(&case.table));
+    let (levels, table) = (hex(&case.opening.levels), hex(&case.opening.table));
     let theirs = theirs.map_or("nothing".to_string(), u8::to_string);
     format!(
         "the openings differ\n  the peer:    {ours}\n  the program: {theirs}\n\
@@ -257,7 +257,7 @@ impl Met {
             *count += u64::from(left.number == number);
         }
         for (count, length) in self.tables.iter_mut().zip(TABLE_LENGTHS) {
-            *count += u64::from(case.table.len() == length);
+            *count += u64::from(case.opening.table.len() == length);
         }
         for number in left.numbers() {
             self.numbers[usize::from(number)] += 1;
@@ -352,8 +352,8 @@ mod tests {
         let ask = [6, 0, 0, 0, 1, 0, 0, 0, 0, 0, 0, 0];
         let map = Map { level: 0, ticket: 1, items: vec![0, 1, 2, 0] };
         let (before, after) = (begin.to_vec(), ask.to_vec());
-        let (levels, table) = (vec![0, 1], Order::CHAIN.table().to_vec());
-        Case { levels, table, before, map, room: 3 * REPLY_BYTES + 5, after }
+        let opening = Opening::new(&[0, 1], &Order::CHAIN.table());
+        Case { opening, before, map, room: 3 * REPLY_BYTES + 5, after }
     }
 
     #[test]

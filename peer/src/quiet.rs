@@ -4,12 +4,13 @@
 use crate::compare::{answer_of, compare_one, explain_replies, first_difference, reply_at, Inputs};
 use crate::cover::check_met;
 use crate::desk::{Desk, Item, Place, Refusal, LEVELS, PLACES_PER_LEVEL};
+use crate::opening::split_header;
 use crate::order::Order;
 use crate::progress::each_seed;
 use crate::run::{opened, Conduct, BY_THE_RULES};
 use crate::stop::Stop;
 use crate::strike::{stays, Struck, STRUCK, WHOLE};
-use crate::wire::{requests_in, split_header, Operation, Request, REPLY_BYTES};
+use crate::wire::{requests_in, Operation, Request, REPLY_BYTES};
 use crate::words;
 use std::io::{self, Write};
 

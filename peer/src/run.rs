@@ -1,8 +1,9 @@
 //! The running desk: bytes in, bytes out, in whatever pieces they arrive.
 
 use crate::desk::{Desk, Refusal, MOST_ITEMS};
+use crate::opening::{split_header, Opening};
 use crate::order::TABLE_BYTES;
-use crate::wire::{split_header, Reply, Request, REQUEST_BYTES};
+use crate::wire::{Reply, Request, REQUEST_BYTES};
 use std::io::{self, Read, Write};
 
 /// Opens a house from the bytes that have come: None until the whole header is there.
@@ -25,7 +26,7 @@ pub fn open(bytes: &[u8]) -> Option<Result<Desk, Refusal>> {
 /// Opens by the levels and the table of a header. A count of 0 or above 64 is refused without them.
 pub fn open_with(
     bytes: &[u8],
-    open: impl FnOnce(&[u8], &[u8]) -> Result<Desk, Refusal>,
+    open: impl FnOnce(&Opening) -> Result<Desk, Refusal>,
 ) -> Option<Result<Desk, Refusal>> {
     let (&count, rest) = bytes.split_first()?;
     let count = usize::from(count);
@@ -34,7 +35,7 @@ pub fn open_with(
     }
     let (levels, rest) = rest.split_at_checked(count)?;
     let table = rest.get(..TABLE_BYTES)?;
-    Some(open(levels, table))
+    Some(open(&Opening::new(levels, table)))
 }
 
 enum State {

@@ -3,6 +3,7 @@
 //! not worth running.
 
 use crate::desk::{delayed_by, Cell, Desk, Place, Refusal, Standing, LEVELS, PLACES_PER_LEVEL};
+use crate::opening::Opening;
 use crate::order::{entry, flaws, levels, Flaw, Order, Table};
 use crate::run::{self, open_with, Answer, Conduct, Open};
 use crate::wire::{Operation, Reply, Request};
@@ -277,40 +278,42 @@ fn names_any_lock(desk: &mut Desk, request: &Request) -> Reply {
 }
 
 /// Opens with a table whose flaws are all of this kind, and otherwise by the rules.
-fn forgiving(levels: &[u8], table: &[u8], is_forgiven: fn(&Flaw) -> bool) -> Result<Desk, Refusal> {
-    match (Desk::open(levels, table), Table::try_from(table)) {
+fn forgiving(opening: &Opening, is_forgiven: fn(&Flaw) -> bool) -> Result<Desk, Refusal> {
+    match (Desk::open(opening), Table::try_from(&opening.table[..])) {
         (Err(Refusal::NoOrder), Ok(table)) if flaws(&table).iter().all(is_forgiven) => {
-            let house = Desk::open(levels, &Order::CHAIN.table())?;
+            let house = Desk::open(&opening.with_table(&Order::CHAIN.table()))?;
             Ok(Desk { order: Order::unjudged(table), ..house })
         }
         (opened, _) => opened,
     }
 }
 
-fn by_columns(items: &[u8], table: &[u8]) -> Result<Desk, Refusal> {
-    let cells = levels().flat_map(|row| levels().map(move |column| table[entry(row, column)]));
-    Desk::open(items, &cells.collect::<Vec<u8>>())
+fn by_columns(opening: &Opening) -> Result<Desk, Refusal> {
+    let cell = |row, column| opening.table[entry(row, column)];
+    let cells = levels().flat_map(|row| levels().map(move |column| cell(row, column)));
+    Desk::open(&opening.with_table(&cells.collect::<Vec<u8>>()))
 }
 
-fn not_transitive(levels: &[u8], table: &[u8]) -> Result<Desk, Refusal> {
-    forgiving(levels, table, |flaw| matches!(flaw, Flaw::NotTransitive { .. }))
+fn not_transitive(opening: &Opening) -> Result<Desk, Refusal> {
+    forgiving(opening, |flaw| matches!(flaw, Flaw::NotTransitive { .. }))
 }
 
-fn not_antisymmetric(levels: &[u8], table: &[u8]) -> Result<Desk, Refusal> {
-    forgiving(levels, table, |flaw| matches!(flaw, Flaw::NotAntisymmetric { .. }))
+fn not_antisymmetric(opening: &Opening) -> Result<Desk, Refusal> {
+    forgiving(opening, |flaw| matches!(flaw, Flaw::NotAntisymmetric { .. }))
 }
 
-fn not_reflexive(levels: &[u8], table: &[u8]) -> Result<Desk, Refusal> {
-    forgiving(levels, table, |flaw| matches!(flaw, Flaw::NotReflexive { .. }))
+fn not_reflexive(opening: &Opening) -> Result<Desk, Refusal> {
+    forgiving(opening, |flaw| matches!(flaw, Flaw::NotReflexive { .. }))
 }
 
-fn byte_above_1(levels: &[u8], table: &[u8]) -> Result<Desk, Refusal> {
-    let bits: Vec<u8> = table.iter().map(|&byte| byte.min(1)).collect();
-    Desk::open(levels, &bits)
+fn byte_above_1(opening: &Opening) -> Result<Desk, Refusal> {
+    let bits: Vec<u8> = opening.table.iter().map(|&byte| byte.min(1)).collect();
+    Desk::open(&opening.with_table(&bits))
 }
 
-fn table_first(levels: &[u8], table: &[u8]) -> Result<Desk, Refusal> {
-    Desk::open(&[0], table).and_then(|_| Desk::open(levels, table))
+fn table_first(opening: &Opening) -> Result<Desk, Refusal> {
+    let proper = Opening { levels: vec![0], ..opening.clone() };
+    Desk::open(&proper).and_then(|_| Desk::open(opening))
 }
 
 fn tells_level_early(bytes: &[u8]) -> Option<Result<Desk, Refusal>> {

@@ -2,9 +2,10 @@
 //! of an output the replies to them, and nothing else.
 
 use crate::desk::Desk;
+use crate::opening::split_header;
 use crate::order::Order;
 use crate::run::opened;
-use crate::wire::{requests_in, split_header, Request, REPLY_BYTES, REQUEST_BYTES};
+use crate::wire::{requests_in, Request, REPLY_BYTES, REQUEST_BYTES};
 
 /// What the two lists are called where replies to them are told apart.
 pub const WHOLE: &str = "whole list";
@@ -64,9 +65,13 @@ fn kept(bytes: &[u8], size: usize, stays: &[bool]) -> Vec<u8> {
 #[cfg(test)]
 mod tests {
     use super::*;
+    use crate::opening::Opening;
     use crate::order::closed;
     use crate::run::{output_for, BY_THE_RULES};
-    use crate::wire::header;
+
+    fn header(levels: &[u8], table: &[u8]) -> Vec<u8> {
+        Opening::new(levels, table).header()
+    }
 
     /// A request of 12 bytes and a reply of 16 that can be told from others.
     fn request(level: u8, mark: u8) -> [u8; REQUEST_BYTES] {

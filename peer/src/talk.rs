@@ -2,10 +2,11 @@
 //! the bytes of both beside them.
 
 use crate::desk::{Desk, Refusal, LEVELS};
+use crate::opening::Opening;
 use crate::order::{closed, flaws, Flaw, Order, Table, TABLE_BYTES};
 use crate::program::Program;
 use crate::stop::Stop;
-use crate::wire::{header, hex, Reply, Request, REPLY_BYTES, REQUEST_BYTES};
+use crate::wire::{hex, Reply, Request, REPLY_BYTES, REQUEST_BYTES};
 use crate::words;
 use std::io::{self, BufRead, Write};
 
@@ -199,7 +200,7 @@ impl<'a, W: Write> Talk<'a, W> {
             return self.lose_program(&message);
         }
         self.sent.extend_from_slice(&header);
-        match Desk::open(&opening.levels, &opening.table) {
+        match Desk::open(opening) {
             Ok(desk) => {
                 self.line("opening", &header, &words::house(&desk))?;
                 self.house = Some(House { desk, program });
@@ -212,7 +213,8 @@ impl<'a, W: Write> Talk<'a, W> {
                     let reply = program.receive_reply()?;
                     program.check_silent_end().map(|()| reply)
                 });
-                let flaw = flaws(&opening.table).first().map(Flaw::to_string);
+                let flaws = Table::try_from(&opening.table[..]).map(|table| flaws(&table));
+                let flaw = flaws.unwrap_or_default().first().map(Flaw::to_string);
                 self.take_reply(ours, theirs, flaw.map(|flaw| (Refusal::NoOrder, flaw)))?;
                 self.say("the desk has stopped; open again to go on")
             }
@@ -314,18 +316,6 @@ pub enum Line {
     Ask(Vec<Request>),
 }
 
-/// The levels of the items, and which level dominates which.
-pub struct Opening {
-    levels: Vec<u8>,
-    table: Table,
-}
-
-impl Opening {
-    pub fn header(&self) -> Vec<u8> {
-        header(&self.levels, &self.table)
-    }
-}
-
 pub fn parse_line(line: &str) -> Result<Line, String> {
     let (verb, rest) = line.split_once(char::is_whitespace).unwrap_or((line, ""));
     Ok(match verb {
@@ -351,7 +341,7 @@ fn parse_opening(words: &str) -> Result<Opening, String> {
         Some((&"order", pairs)) => parse_order(pairs)?,
         Some((_, rows)) => parse_table(&rows.concat())?,
     };
-    Ok(Opening { levels, table })
+    Ok(Opening::new(&levels, &table))
 }
 
 fn parse_levels(words: impl Iterator<Item = impl AsRef<str>>, most: u8) -> Result<Vec<u8>, String> {

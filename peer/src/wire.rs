@@ -1,7 +1,5 @@
 //! Requests and replies as bytes. All numbers are little-endian.
 
-use crate::order::{Table, TABLE_BYTES};
-
 pub const REQUEST_BYTES: usize = 12;
 pub const REPLY_BYTES: usize = 16;
 
@@ -144,25 +142,6 @@ impl Reply {
         let [n0, n1, n2, n3] = self.version.to_le_bytes();
         [self.number, self.operation, i0, i1, t0, t1, t2, t3, v0, v1, v2, v3, n0, n1, n2, n3]
     }
-}
-
-/// The bytes that open a house: how many items, the level of each, and which level dominates which.
-pub fn header(levels: &[u8], table: &Table) -> Vec<u8> {
-    [&[levels.len() as u8], levels, table].concat()
-}
-
-/// The header of an input, as much of it as there is, and the bytes behind it.
-pub fn split_header(input: &[u8]) -> (&[u8], &[u8]) {
-    let header_bytes = 1 + usize::from(input.first().copied().unwrap_or(0)) + TABLE_BYTES;
-    input.split_at(header_bytes.min(input.len()))
-}
-
-/// The count, the levels and the table of a header, as much as there is of each.
-pub fn split_opening(header: &[u8]) -> (usize, &[u8], &[u8]) {
-    let (&count, rest) = header.split_first().unwrap_or((&0, &[]));
-    let count = usize::from(count);
-    let (levels, table) = rest.split_at(rest.len().min(count));
-    (count, levels, table)
 }
 
 /// The whole requests of these bytes; an unfinished one at their end is none.

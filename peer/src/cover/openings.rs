@@ -2,37 +2,36 @@
 
 use super::{print_met, unmet};
 use crate::desk::LEVELS;
+use crate::opening::{split_opening, Opening};
 use crate::order::{flaws, Flaw, Order, Table, TABLE_BYTES};
-use crate::wire::split_opening;
 use std::io::{self, Write};
 
 /// A header that was refused, as much of it as came.
-struct Refused<'a> {
+struct Refused {
     count: usize,
-    levels: &'a [u8],
-    table: &'a [u8],
+    opening: Opening,
     number: u8,
 }
 
-impl Refused<'_> {
+impl Refused {
     fn is(&self, number: u8) -> bool {
         self.number == number
     }
 
     fn has_level_above_3(&self) -> bool {
-        self.levels.iter().any(|&level| level >= LEVELS)
+        self.opening.levels.iter().any(|&level| level >= LEVELS)
     }
 
     fn has_all_levels(&self) -> bool {
-        (1..=64).contains(&self.count) && self.levels.len() == self.count
+        (1..=64).contains(&self.count) && self.opening.levels.len() == self.count
     }
 
     fn is_cut_in_table(&self) -> bool {
-        self.has_all_levels() && self.table.len() < TABLE_BYTES
+        self.has_all_levels() && self.opening.table.len() < TABLE_BYTES
     }
 
     fn flaws(&self) -> Vec<Flaw> {
-        Table::try_from(self.table).map(|table| flaws(&table)).unwrap_or_default()
+        Table::try_from(&self.opening.table[..]).map(|table| flaws(&table)).unwrap_or_default()
     }
 
     /// The one thing that is wrong with the table, where it is the only one.
@@ -47,7 +46,9 @@ type Meets = fn(&Refused) -> bool;
 const MEETS: [(&str, Meets); 12] = [
     ("13: no items", |at| at.is(13) && at.count == 0),
     ("13: more than 64 items", |at| at.is(13) && at.count > 64),
-    ("13: levels cut short", |at| at.is(13) && at.count <= 64 && at.levels.len() < at.count),
+    ("13: levels cut short", |at| {
+        at.is(13) && at.count <= 64 && at.opening.levels.len() < at.count
+    }),
     ("13: the table cut short", |at| at.is(13) && at.is_cut_in_table() && !at.has_level_above_3()),
     ("13: the table cut short, and a level byte above 3", |at| {
         at.is(13) && at.is_cut_in_table() && at.has_level_above_3()
@@ -88,9 +89,9 @@ impl Openings {
     }
 
     pub fn note_refused(&mut self, header: &[u8], reply: &[u8]) {
-        let (count, levels, table) = split_opening(header);
+        let (count, opening) = split_opening(header);
         let number = reply.first().copied().unwrap_or(0);
-        let refused = Refused { count, levels, table, number };
+        let refused = Refused { count, opening, number };
         let mut is_known = false;
         for (met, (_, is_met)) in self.refused.iter_mut().zip(MEETS) {
             *met += u64::from(is_met(&refused));

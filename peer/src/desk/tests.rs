@@ -4,12 +4,17 @@
 use super::*;
 use crate::bytes::input_of;
 use crate::generator::Generator;
+use crate::opening::split_header;
 use crate::order::levels;
 use crate::run::opened;
-use crate::wire::{requests_in, split_header};
+use crate::wire::requests_in;
 
 fn request(operation: Operation, level: u8, ticket: u32) -> Request {
     Request { operation: operation.number(), level, ticket, ..Request::default() }
+}
+
+fn open(levels: &[u8], table: &[u8]) -> Result<Desk, Refusal> {
+    Desk::open(&Opening::new(levels, table))
 }
 
 fn begin(desk: &mut Desk, level: u8) -> Reply {
@@ -30,7 +35,7 @@ fn plain(desk: &mut Desk, operation: Operation, level: u8, ticket: u32) -> u8 {
 
 /// Items 0 and 1 at level 0, item 2 at level 2, the old chain, and nobody there.
 fn empty_house() -> Desk {
-    Desk::open(&[0, 0, 2], &Order::CHAIN.table()).expect("proper levels and a proper table")
+    open(&[0, 0, 2], &Order::CHAIN.table()).expect("proper levels and a proper table")
 }
 
 /// The house of the marked examples: level-0 tickets 1 and 2 and level-2 ticket 1 are open.
@@ -271,23 +276,23 @@ fn neither_the_asker_nor_a_reader_above_is_named() {
 #[test]
 fn openings() {
     let proper = Order::DIAMOND.table();
-    assert_eq!(Desk::open(&[], &proper), Err(Refusal::ItemCount));
-    assert_eq!(Desk::open(&[9; 65], &proper), Err(Refusal::ItemCount), "13 is checked before 14");
+    assert_eq!(open(&[], &proper), Err(Refusal::ItemCount));
+    assert_eq!(open(&[9; 65], &proper), Err(Refusal::ItemCount), "13 is checked before 14");
     for length in [0, 1, 15, 17, 32, 255] {
         let table = vec![2; length];
-        assert_eq!(Desk::open(&[0, 4], &table), Err(Refusal::ItemCount), "a table of {length}");
+        assert_eq!(open(&[0, 4], &table), Err(Refusal::ItemCount), "a table of {length}");
     }
-    assert_eq!(Desk::open(&[0, 4], &proper), Err(Refusal::LevelByte));
-    assert_eq!(Desk::open(&[0, 4], &[2; 16]), Err(Refusal::LevelByte), "14 is checked before 16");
-    assert_eq!(Desk::open(&[0, 3], &[2; 16]), Err(Refusal::NoOrder));
-    let desk = Desk::open(&[3; 64], &proper).expect("a house that opens");
+    assert_eq!(open(&[0, 4], &proper), Err(Refusal::LevelByte));
+    assert_eq!(open(&[0, 4], &[2; 16]), Err(Refusal::LevelByte), "14 is checked before 16");
+    assert_eq!(open(&[0, 3], &[2; 16]), Err(Refusal::NoOrder));
+    let desk = open(&[3; 64], &proper).expect("a house that opens");
     assert_eq!((desk.items.len(), desk.order), (64, Order::DIAMOND));
     assert_eq!((Desk::refused().items.len(), Desk::refused().order), (0, Order::CHAIN));
 }
 
 /// Two subjects side by side: one item at each level, and one of each level is open.
 fn diamond() -> Desk {
-    let mut desk = Desk::open(&[0, 1, 2, 3], &Order::DIAMOND.table()).expect("a house that opens");
+    let mut desk = open(&[0, 1, 2, 3], &Order::DIAMOND.table()).expect("a house that opens");
     levels().for_each(|level| assert_eq!(begin(&mut desk, level).ticket, 1));
     desk
 }
@@ -331,7 +336,7 @@ fn a_certify_signals_whoever_is_above_by_the_table() {
 #[test]
 fn the_old_chain_is_document_01() {
     for (level, other) in levels().flat_map(|level| levels().map(move |other| (level, other))) {
-        let mut desk = Desk::open(&[other], &Order::CHAIN.table()).expect("a house that opens");
+        let mut desk = open(&[other], &Order::CHAIN.table()).expect("a house that opens");
         begin(&mut desk, level);
         let number = if other > level { 8 } else { 0 };
         assert_eq!(read(&mut desk, level, 1, 0).number, number, "{level} reads {other}");

@@ -2,9 +2,10 @@
 
 use super::Open;
 use crate::desk::{Desk, Place, Standing, LEVELS};
-use crate::generator::{at_or_above, header_of, spoil, strange_item, Generator};
+use crate::generator::{at_or_above, spoil, strange_item, Generator};
+use crate::opening::{split_opening, Opening};
 use crate::rng::Rng;
-use crate::wire::{split_opening, Operation, Request, REPLY_BYTES, REQUEST_BYTES};
+use crate::wire::{Operation, Request, REPLY_BYTES, REQUEST_BYTES};
 
 /// Lengths of lists that even seeds step through: on either side of what one part of a map may
 /// hold, wherever a desk reads it in parts of up to 64 or 128. Odd seeds take any up to the last.
@@ -37,8 +38,7 @@ impl Map {
 
 #[derive(Clone, Debug, PartialEq, Eq)]
 pub struct Case {
-    pub levels: Vec<u8>,
-    pub table: Vec<u8>,
+    pub opening: Opening,
     /// Whole requests.
     pub before: Vec<u8>,
     pub map: Map,
@@ -52,7 +52,7 @@ impl Case {
     pub fn of_seed(seed: u64) -> Case {
         let mut rng = Rng::new(seed ^ OWN_STREAM);
         let mut generator = Generator::new(seed);
-        let (levels, table) = opening(seed, &mut rng, generator.desk());
+        let opening = opening(seed, &mut rng, generator.desk());
         let mut before = stretch(&mut generator, rng.below(200));
         let (level, ticket) = reader(&mut rng, &mut generator, &mut before);
         let even = LENGTHS[(seed / 2) as usize % LENGTHS.len()];
@@ -64,12 +64,12 @@ impl Case {
             generator.follow(&map.read(item));
         }
         let after = after(&mut rng, generator, &map);
-        Case { levels, table, before, map, room, after }
+        Case { opening, before, map, room, after }
     }
 
     /// The number of the opening, and the house it yields.
     pub fn house(&self, open: Open) -> (u8, Desk) {
-        match open(&self.levels, &self.table) {
+        match open(&self.opening) {
             Ok(desk) => (0, desk),
             Err(refusal) => (refusal.number(), Desk::refused()),
         }
@@ -84,10 +84,10 @@ impl Case {
 
     /// The bytes of a case; `bench/maps.c` says how they lie.
     pub fn to_bytes(&self) -> Vec<u8> {
-        let Case { levels, table, before, map, room, after } = self;
+        let Case { opening, before, map, room, after } = self;
         let two = |number: usize| (number as u16).to_le_bytes();
         let mut bytes = Vec::new();
-        for part in [levels, table] {
+        for part in [&opening.levels, &opening.table] {
             bytes.push(part.len() as u8);
             bytes.extend(part);
         }
@@ -115,9 +115,8 @@ impl Case {
         let (before, after) = rest.split_at_checked(REQUEST_BYTES * before)?;
         let items = items.chunks_exact(2).map(|item| u16::from_le_bytes([item[0], item[1]]));
         let map = Map { level, ticket: u32::from_le_bytes(ticket), items: items.collect() };
-        let (levels, table) = (levels.to_vec(), table.to_vec());
         let (before, after) = (before.to_vec(), after.to_vec());
-        Some(Case { levels, table, before, map, room, after })
+        Some(Case { opening: Opening::new(levels, table), before, map, room, after })
     }
 }
 
@@ -134,13 +133,15 @@ fn two_bytes(bytes: &[u8]) -> Option<(usize, &[u8])> {
 
 /// The levels and the table of the house, or in two seeds of eight such as are refused: those of a
 /// spoiled header, or a table of another length. The requests stay those of the house.
-fn opening(seed: u64, rng: &mut Rng, desk: &Desk) -> (Vec<u8>, Vec<u8>) {
-    let mut header = header_of(desk);
+fn opening(seed: u64, rng: &mut Rng, desk: &Desk) -> Opening {
+    let mut header = desk.opening().header();
     spoil(seed, rng, &mut header);
-    let (_, levels, table) = split_opening(&header);
-    let length = TABLE_LENGTHS[(seed / 8) as usize % TABLE_LENGTHS.len()];
-    let length = if seed % 8 == 6 { length } else { table.len() };
-    (levels.to_vec(), table.iter().copied().cycle().take(length).collect())
+    let (_, mut opening) = split_opening(&header);
+    if seed % 8 == 6 {
+        let length = TABLE_LENGTHS[(seed / 8) as usize % TABLE_LENGTHS.len()];
+        opening.table = opening.table.iter().copied().cycle().take(length).collect();
+    }
+    opening
 }
 
 /// The bytes of the generator's next requests.
@@ -298,8 +299,8 @@ mod tests {
     fn the_bytes_lie_as_the_program_reads_them() {
         let map = Map { level: 3, ticket: 0x07060504, items: vec![0x0908, 1] };
         let (before, after) = (vec![5; REQUEST_BYTES], vec![6; 2]);
-        let (levels, table) = (vec![0, 1], vec![1, 1, 2]);
-        let case = Case { levels, table, before, map, room: 0x0102, after };
+        let opening = Opening::new(&[0, 1], &[1, 1, 2]);
+        let case = Case { opening, before, map, room: 0x0102, after };
         let start = [2, 0, 1, 3, 1, 1, 2, 3, 4, 5, 6, 7, 2, 0, 8, 9, 1, 0, 2, 1, 1, 0];
         let bytes = [&start[..], &[5; REQUEST_BYTES], &[6; 2]].concat();
         assert_eq!(case.to_bytes(), bytes);

@@ -3,6 +3,7 @@
 
 use super::{read_map, Call, Conduct, Map, Open};
 use crate::desk::{Desk, Refusal, MOST_ITEMS};
+use crate::opening::Opening;
 use crate::order::TABLE_BYTES;
 use crate::wire::REPLY_BYTES;
 
@@ -89,11 +90,12 @@ fn keeps_last_part(desk: &mut Desk, map: &Map, replies: &mut [u8]) -> usize {
     count
 }
 
-fn takes_longer_table(levels: &[u8], table: &[u8]) -> Result<Desk, Refusal> {
-    Desk::open(levels, &table[..table.len().min(TABLE_BYTES)])
+fn takes_longer_table(opening: &Opening) -> Result<Desk, Refusal> {
+    let most = opening.table.len().min(TABLE_BYTES);
+    Desk::open(&opening.with_table(&opening.table[..most]))
 }
 
-fn fills_shorter_table(levels: &[u8], table: &[u8]) -> Result<Desk, Refusal> {
-    let zeros = vec![0; TABLE_BYTES.saturating_sub(table.len())];
-    Desk::open(levels, &[table, &zeros].concat())
+fn fills_shorter_table(opening: &Opening) -> Result<Desk, Refusal> {
+    let zeros = vec![0; TABLE_BYTES.saturating_sub(opening.table.len())];
+    Desk::open(&opening.with_table(&[&opening.table[..], &zeros].concat()))
 }
