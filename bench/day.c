@@ -229,10 +229,9 @@ static void try_map(size_t room) {
     memset(replies, GUARD, sizeof replies);
     for (size_t p = 0; p < PARTS; p++) lay_out(&map_parts[p], requests[p], expected[p]);
     size_t before = map_parts[0].steps, items = map_parts[1].steps, after = map_parts[2].steps;
-    size_t handled = desk_fresh_map(marked.levels, marked.levels_len, marked.table, marked.table_len, requests[0],
-                                    before * REQUEST_BYTES, replies[0], before * REPLY_BYTES, 2, 1, map_items, items,
-                                    replies[1], room, requests[2], after * REQUEST_BYTES, replies[2],
-                                    after * REPLY_BYTES);
+    size_t handled = desk_fresh_map(OPENED_WITH(&marked), requests[0], before * REQUEST_BYTES, replies[0],
+                                    before * REPLY_BYTES, 2, 1, map_items, items, replies[1], room, requests[2],
+                                    after * REQUEST_BYTES, replies[2], after * REPLY_BYTES);
     size_t due[PARTS] = {before, least(items, room / REPLY_BYTES), after};
     for (size_t p = 0; p < PARTS; p++)
         differing += !same(map_parts[p].name, "desk_fresh_map", requests[p], expected[p], replies[p],
@@ -250,7 +249,6 @@ static void try(const struct example *e) {
         printf("%s: wire.h does not write the bytes of document 01\n", e->name);
         differing++;
     }
-    const struct opening *o = e->opening;
     size_t whole = e->steps * REQUEST_BYTES, place = e->steps * REPLY_BYTES;
     // A turn of one request, of a few, and of all; with an unfinished request at the end and more
     // places than replies; with one place too few.
@@ -261,13 +259,12 @@ static void try(const struct example *e) {
         char call[48];
         snprintf(call, sizeof call, "%s of at most %zu", turns[k / 3].name, most);
         memset(replies, GUARD, sizeof replies);
-        size_t answered = serve(o->levels, o->levels_len, o->table, o->table_len, requests,
-                                whole + REQUEST_BYTES - 1, replies, sizeof replies, most);
+        size_t answered = serve(OPENED_WITH(e->opening), requests, whole + REQUEST_BYTES - 1, replies, sizeof replies,
+                                most);
         differing += !same(e->name, call, requests, expected, replies, sizeof replies,
                            least(most, e->steps), answered);
         memset(replies, GUARD, sizeof replies);
-        answered = serve(o->levels, o->levels_len, o->table, o->table_len, requests, whole, replies,
-                         place - 1, most);
+        answered = serve(OPENED_WITH(e->opening), requests, whole, replies, place - 1, most);
         differing += !same(e->name, call, requests, expected, replies, sizeof replies,
                            least(most, e->steps - 1), answered);
         calls += 2;

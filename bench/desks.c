@@ -40,14 +40,12 @@ static size_t run_bdb(const struct opening *o, const uint8_t *requests, size_t r
 #ifdef WITH_PROVED
 static size_t run_turn(const struct opening *o, const uint8_t *requests, size_t requests_len,
                        uint8_t *replies, size_t replies_len) {
-    return desk_fresh_turn(o->levels, o->levels_len, o->table, o->table_len, requests, requests_len,
-                           replies, replies_len, SIZE_MAX);
+    return desk_fresh_turn(OPENED_WITH(o), requests, requests_len, replies, replies_len, SIZE_MAX);
 }
 
 static size_t run_in_place(const struct opening *o, const uint8_t *requests, size_t requests_len,
                            uint8_t *replies, size_t replies_len) {
-    return desk_fresh_turn_in_place(o->levels, o->levels_len, o->table, o->table_len, requests,
-                                    requests_len, replies, replies_len, SIZE_MAX);
+    return desk_fresh_turn_in_place(OPENED_WITH(o), requests, requests_len, replies, replies_len, SIZE_MAX);
 }
 #endif
 

@@ -177,9 +177,8 @@ static size_t call(const struct way *way, uint8_t *replies) {
     uint8_t *of_reads = replies + REPLY_BYTES;
     if (way->desk)
         return way->desk->run(&full_opening, asked, replies_to(way) * REQUEST_BYTES, replies, replies_to(way) * REPLY_BYTES);
-    const struct opening *o = &full_opening;
-    return desk_fresh_map(o->levels, o->levels_len, o->table, o->table_len, asked, REQUEST_BYTES, replies, REPLY_BYTES,
-                          TOP, 1, listed, way->items, of_reads, way->items * REPLY_BYTES, asked + REQUEST_BYTES,
+    return desk_fresh_map(OPENED_WITH(&full_opening), asked, REQUEST_BYTES, replies, REPLY_BYTES, TOP, 1, listed,
+                          way->items, of_reads, way->items * REPLY_BYTES, asked + REQUEST_BYTES,
                           way->reads * REQUEST_BYTES, of_reads, way->reads * REPLY_BYTES);
 }
 

@@ -52,10 +52,11 @@ int main(void) {
     uint8_t *bytes = read_all(&len);
     if (!bytes) return 2;
     struct input in = {bytes, len};
-    size_t levels_len = *take(&in, 1, "the count of levels");
-    const uint8_t *levels = take(&in, levels_len, "the last level");
-    size_t table_len = *take(&in, 1, "the length of the table");
-    const uint8_t *table = take(&in, table_len, "the end of the table");
+    struct opening o;
+    o.levels_len = *take(&in, 1, "the count of levels");
+    o.levels = take(&in, o.levels_len, "the last level");
+    o.table_len = *take(&in, 1, "the length of the table");
+    o.table = take(&in, o.table_len, "the end of the table");
     uint8_t level = *take(&in, 1, "the map's level");
     uint32_t ticket = get32(take(&in, 4, "the map's ticket"));
     size_t count = get16(take(&in, 2, "the count of items"));
@@ -70,9 +71,9 @@ int main(void) {
     uint8_t *left = memset(need(left_len), GUARD, left_len);
     uint8_t *counted = left + NUMBER_BYTES, *earlier = counted + COUNT_BYTES, *replies = earlier + before_room;
     uint8_t *later = replies + room + GUARDS;
-    *left = desk_fresh_open(levels, levels_len, table, table_len);
-    uint64_t handled = desk_fresh_map(levels, levels_len, table, table_len, before, before_len, earlier, before_room,
-                                      level, ticket, items, count, replies, room, in.at, in.left, later, after_room);
+    *left = desk_fresh_open(OPENED_WITH(&o));
+    uint64_t handled = desk_fresh_map(OPENED_WITH(&o), before, before_len, earlier, before_room, level, ticket, items,
+                                      count, replies, room, in.at, in.left, later, after_room);
     put32(counted, (uint32_t)handled);
     put32(counted + 4, (uint32_t)(handled >> 32));
     bool written = fwrite(left, 1, left_len, stdout) == left_len && fflush(stdout) == 0;

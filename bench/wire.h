@@ -117,6 +117,9 @@ struct opening {
     size_t table_len;
 };
 
+// An opening as the first arguments of a call of the library (proved.h).
+#define OPENED_WITH(o) (o)->levels, (o)->levels_len, (o)->table, (o)->table_len
+
 // Document 01's order, where a larger level dominates a smaller one.
 static const uint8_t chain[TABLE_BYTES] = {1, 1, 1, 1, 0, 1, 1, 1, 0, 0, 1, 1, 0, 0, 0, 1};
 
