@@ -1,43 +1,34 @@
 -- Laws for `search`, each from what a call promises and which way its test went.
 -- Assumes nothing.
-use Prim.Native.Nat.{ℕ, _+_, _*_, _/_, _%_, _<_}
+use Prim.Native.Nat.{ℕ, _+_, _*_, _%_, _<_}
 use native.Mathlib.Omega.{arith}
 use native.Mathlib.Nat.{mod-eq-of-lt}
-use mathlib.Core.Path.{_≡_, refl, sym, _∙_}
-use mathlib.Core.Logic.{_≢_, inl, inr}
+use mathlib.Core.Path.{_≡_, sym, _∙_}
 use mathlib.Core.Bool.{Bool, true, false, cond, not, _||_}
 use mathlib.Core.List.{List}
-use lib.Dec.{eqb, leb}
-use borrow.Author.Tests.{eq-eqb, ne-eqb, eqb-true, not-true, not-false}
-use mir.Syntax.{w16, w64}
+use lib.Dec.{leb}
+use borrow.Author.Tests.{not-true, not-false}
+use mir.Syntax.{w64}
 use mir.Val.{Fits}
-use Rattle.house.proofs.Tests.{is, same, clash, refuted, and-true, and-intro}
 use Rattle.house.proofs.Checks.{there, level-there}
-use Rattle.house.proofs.Searches.{any-none, any-some, any-at, find-at, find-below, none-found, scan-same}
 use Rattle.house.proofs.Places.{seek-at, vacancy-at}
 use Rattle.house.specs.declared.Answer.{Answer}
-use Rattle.house.specs.declared.Answer.the-variants.{Signals}
 use Rattle.house.specs.declared.Found.{Found}
 use Rattle.house.specs.declared.Found.the-variants.{At, Nobody}
-use Rattle.house.specs.declared.Mark.{Mark}
-use Rattle.house.specs.declared.Mark.the-variants.{Read, Write, Certify}
+use Rattle.house.specs.declared.Item.{Item}
 use Rattle.house.specs.declared.Place.{Place}
 use Rattle.house.specs.declared.Request.{Request}
-use Rattle.house.specs.Cell.{holds, anotherHolds}
-use Rattle.house.specs.Rules.{certify, noLevel, anotherClaims, peerReads, hinders}
-use Rattle.house.specs.Search.{any, find, ifFound}
+use Rattle.house.specs.Rules.{noLevel, readAnswer, askAnswer}
+use Rattle.house.specs.Search.{ifFound}
 use Rattle.house.specs.House.{seek, vacancy}
 use Rattle.ruling.specs.declared.Change.{Change}
 use Rattle.ruling.specs.declared.Ruling.{Ruling}
 use Rattle.ruling.specs.declared.Ruling.the-variants.{Grant}
-use Rattle.ruling.specs.Judged.{waitsAt}
+use Rattle.ruling.specs.Judged.{lowestHolder, certifyHolder}
 
 -- what is granted has the answer that a call made
 pub granted : (r : Ruling) (a b : Answer) (c : Change) → r ≡ Grant a c → a ≡ b → r ≡ Grant b c
 granted r a b c e p = e ∙ rw p
-
-pub signals : (i j n m : ℕ) → i ≡ j → n ≡ m → Signals i n ≡ Signals j m
-signals i j n m p q = rw (p, q)
 
 -- a check that a call answers the other way round: the asker's level dominates the item's, or it does not
 pub allowed : (r x y : Ruling) (b t : Bool) → b ≡ t → not b ≡ false → r ≡ y → r ≡ cond (not t) x y
@@ -54,9 +45,6 @@ listed b count i e n = there count i (sym e ∙ n) .1
 pub low : (b : Bool) (q : Request) → b ≡ noLevel q → b ≡ false → q .level < 4
 low b q e n = level-there q (sym e ∙ n)
 
-pub near : (a : Found) (f : ℕ → Bool) (n k : ℕ) → a ≡ find f 0 n → a ≡ At k → k < n
-near a f n k e p = omega (arith, find-below f 0 n k (sym e ∙ p))
-
 pub sought : (a : Found) (eight : List Place) (t k : ℕ) → a ≡ seek eight 0 t → a ≡ At k → k < 8
 sought a eight t k e p = let w = seek-at eight 0 t k (omega arith) (sym e ∙ p) .within .level in omega arith
 
@@ -69,67 +57,28 @@ placed l k b d = omega arith
 pub place-fits : (l k : ℕ) → l < 4 → k < 8 → Fits w64 (l * 8 + k)
 place-fits l k b d = omega arith
 
-pub item-fits : (i : ℕ) → i < 64 → Fits w16 i
-item-fits i b = omega arith
-
 pub eighth-fits : (k : ℕ) → k < 8 → Fits w64 (k * 8)
 eighth-fits k b = omega arith
 
--- THE SCANS: each in the words of the search that it spares
+-- THE LOCKS are asked at a place modulo 32 and of an item modulo 64; those of a case are below
+module _ (cells : List ℕ) (me : ℕ) (here : me < 32) where
+  pub certify-held : (a : Found) → a ≡ certifyHolder cells (me % 32) → a ≡ certifyHolder cells me
+  certify-held a e = rw (mod-eq-of-lt here) at e
 
--- two tests that agree on `me`, and on whoever is not `me`
-but-me : (f g : ℕ → Bool) (me : ℕ) → f me ≡ g me → ((p : ℕ) → p ≢ me → f p ≡ g p) → any f 0 32 ≡ any g 0 32
-but-me f g me here there = scan-same f g _ _ 0 32 (λ p a b. elim (same p me) [ inl e ↦ rw e here | inr d ↦ there p d ])
+  pub asked : (a : Answer) → a ≡ askAnswer cells (me % 32) → a ≡ askAnswer cells me
+  asked a e = rw (mod-eq-of-lt here) at e
 
-module _ (cells : List ℕ) (me i : ℕ) (b : Bool) where
-  -- who does not hold the mark, or claim the item, need not be told from the others
-  pub others-hold : (m : Mark) → b ≡ holds cells m me i → b ≡ false → (r : Bool) → r ≡ any (λ p. holds cells m p i) 0 32 → r ≡ any (anotherHolds cells m me i) 0 32
-  unfolding anotherHolds
-  others-hold m e n r s = s ∙ but-me _ _ me (rw (eq-eqb me me refl) (sym e ∙ n)) (λ p d. rw (ne-eqb p me d))
+  module _ (i : ℕ) (l : i < 64) where
+    pub shown : (x : Item) (pending : ℕ) (a : Answer) → a ≡ readAnswer cells x pending (me % 32) (i % 64) → a ≡ readAnswer cells x pending me i
+    shown x pending a e = rw (mod-eq-of-lt here, mod-eq-of-lt l) at e
 
-  pub others-claim : b ≡ (holds cells Write me i || holds cells Certify me i) → b ≡ false → (r : Bool) → r ≡ any (λ p. holds cells Write p i || holds cells Certify p i) 0 32 → r ≡ any (anotherClaims cells me i) 0 32
-  unfolding anotherClaims anotherHolds
-  others-claim e n r s = s ∙ but-me _ _ me (rw (eq-eqb me me refl) (sym e ∙ n)) (λ p d. rw (ne-eqb p me d))
+    -- a read or a write, in whose way somebody stands, or nobody
+    module _ {A : Type 0} (r : A) (f : ℕ → A) (x : A) (operation : ℕ) (a : Found) (s : a ≡ lowestHolder cells operation (me % 32) (i % 64)) where
+      who : a ≡ lowestHolder cells operation me i
+      who = rw (mod-eq-of-lt here, mod-eq-of-lt l) at s
 
--- those of a level are the eight
-pub peers : (cells : List ℕ) (me i : ℕ) → me < 32 → (r : Bool) → r ≡ any (anotherHolds cells Read me i) (me / 8 * 8) 8 → r ≡ any (hinders cells certify me i) 0 32
-unfolding hinders peerReads
-peers cells me i a r s =
-    let eight = anotherHolds cells Read me i in
-    s
-    ∙ elim (is (any eight (me / 8 * 8) 8)) [
-      | inl y ↦ let w = any-some eight (me / 8 * 8) 8 y in y ∙ sym (any-at (hinders cells certify me i) 0 32 (w .0) (omega arith) (omega arith) (and-intro _ _ (eq-eqb (w .0 / 8) (me / 8) (omega arith)) (w .3)))
-      | inr n ↦ n ∙ sym (refuted _ (λ y.
-          let w = any-some (hinders cells certify me i) 0 32 y in
-          let k = and-true (eqb (w .0 / 8) (me / 8)) (eight (w .0)) (w .3) in
-          let level = eqb-true (w .0 / 8) (me / 8) (k .0) in
-          clash (k .1) (any-none eight (me / 8 * 8) 8 n (w .0) (omega arith) (omega arith))))
-    ]
+      pub held : (p : ℕ) → a ≡ At p → r ≡ f p → r ≡ ifFound (lowestHolder cells operation me i) f x
+      held p e q = rw (sym who ∙ e) q
 
--- "With nothing written it is done at once."
-pub nothing-written : (cells : List ℕ) (me : ℕ) → me < 32 → (b : Bool) → b ≡ any (holds cells Write (me % 32)) 0 64 → not b ≡ true → Nobody ≡ find (waitsAt cells me) 0 64
-unfolding waitsAt
-nothing-written cells me a b e n =
-    let none : any (holds cells Write me) 0 64 ≡ false = rw (mod-eq-of-lt a) at (sym e ∙ not-true b n) in
-    sym (none-found (waitsAt cells me) 0 64 (scan-same _ _ _ _ 0 64 (λ i c d. rw (any-none (holds cells Write me) 0 64 none i c d)) ∙ none))
-
--- WHERE A SCAN HAS SAID YES somebody is found, and where it has said no nobody is
-
-pub hindered : (cells : List ℕ) (me i : ℕ) (a : Found) → a ≡ find (waitsAt cells me) 0 64 → a ≡ At i → any (hinders cells certify me i) 0 32 ≡ true
-unfolding waitsAt
-hindered cells me i a e p = and-true (holds cells Write me i) _ (find-at (waitsAt cells me) 0 64 i (sym e ∙ p) .2) .1
-
-module _ {A : Type 0} (r : A) (f : ℕ → A) (x : A) where
-  pub held : (who : Found) (k : ℕ) → At k ≡ who → r ≡ f k → r ≡ ifFound who f x
-  held who k e p = rw (sym e) p
-
-  pub unheld : (b : Bool) (g : ℕ → Bool) → b ≡ any g 0 32 → b ≡ false → r ≡ x → r ≡ ifFound (find g 0 32) f x
-  unheld b g s n p = rw (none-found g 0 32 (sym s ∙ n)) p
-
-  -- a certify, on an item at which it waits, or on none
-  module _ (a who : Found) (g : ℕ → Found) (s : a ≡ who) where
-    pub held-there : (i k : ℕ) → a ≡ At i → At k ≡ g i → r ≡ f k → r ≡ ifFound (ifFound who g Nobody) f x
-    held-there i k e h p = rw (sym s ∙ e, sym h) p
-
-    pub held-nowhere : a ≡ Nobody → r ≡ x → r ≡ ifFound (ifFound who g Nobody) f x
-    held-nowhere e p = rw (sym s ∙ e) p
+      pub unheld : a ≡ Nobody → r ≡ x → r ≡ ifFound (lowestHolder cells operation me i) f x
+      unheld e q = rw (sym who ∙ e) q

@@ -1,39 +1,34 @@
 // The judge: what is ruled of a request, over the parts of the house that its level can see. It changes nothing, so a
 // refusal or a delay leaves the house as it was by construction.
 
-mod scans;
-
 ghost use mathlib.Core.Path.{_≡_};
 ghost use mathlib.Core.Bool.{_||_};
 ghost use Prim.Native.Nat.{_+_, _*_, _<_};
 ghost use lib.Dec.{leb};
+ghost use Rattle.house.specs.Cell.{isSignalled};
 ghost use Rattle.house.specs.House.{isActive, isCertified, vacancy};
-ghost use Rattle.house.specs.Rules.{noOperation, noLevel, unusedSet, readAnswer, askAnswer};
+ghost use Rattle.house.specs.Rules.{noOperation, noLevel, unusedSet};
 ghost use Rattle.ruling.specs.declared.Ruling.the-variants.{Grant};
 ghost use Rattle.ruling.specs.Judged.{Judged, beginRuled, readRuled, writeRuled, certifyRuled, commitRuled, knownRuled};
 use house::Answer;
 use house::Found;
-use house::Item;
 use house::Mark;
 use house::Place;
 use house::Request;
 use house::Standing;
+use locks::answer_ask;
+use locks::answer_read;
+use locks::certify_holder;
+use locks::read_holder;
+use locks::write_holder;
 use parts::dominates;
-use parts::grow;
+use parts::holds_any;
 use places::lookup;
 use places::lowest_free;
 use ruling::Case;
 use ruling::Change;
 use ruling::Ruling;
 use ruling::View;
-use scans::count_signalled;
-use scans::first_awaited;
-use scans::first_signalled;
-use scans::holds_mark;
-use scans::is_signalled;
-use scans::lowest_holder;
-use scans::other_claims;
-use scans::other_holds;
 
 fn is_active(s: Standing) -> bool
     ensures { λ r. ⌜ r ≡ isActive s ⌝ }
@@ -89,26 +84,11 @@ fn lacks_item(count: usize, i: usize) -> bool
     (count <= i) | (64 <= i)
 }
 
-fn answer_read(cells: &[u8; 2048], x: Item, pending: u32, me: usize, i: usize) -> Answer
-    requires { ⌜ (me < 32) × (i < 64) ⌝ }
-    ensures { λ r. ⌜ r ≡ readAnswer (now (cells .entry)) x pending me i ⌝ }
-{
-    if holds_mark(cells, Mark::Write, me, i) {
-        return Answer::Pair(pending, grow(x.version));
-    }
-    Answer::Pair(x.value, x.version)
-}
-
-fn answer_ask(cells: &[u8; 2048], me: usize) -> Answer
+fn is_signalled(cells: &[u8; 2048], me: usize) -> bool
     requires { ⌜ me < 32 ⌝ }
-    ensures { λ r. ⌜ r ≡ askAnswer (now (cells .entry)) me ⌝ }
+    ensures { λ r. ⌜ r ≡ isSignalled (now (cells .entry)) me ⌝ }
 {
-    let count = count_signalled(cells, me);
-    let Found::At(i) = first_signalled(cells, me) else {
-        return Answer::Signals(0, count);
-    };
-    let lowest = i as u16;
-    Answer::Signals(lowest, count)
+    holds_any(cells, Mark::Signalled, me)
 }
 
 fn judge_begin(eight: [Place; 8], ticket: u32, level: usize) -> Ruling
@@ -149,8 +129,9 @@ fn judge_read(case: Case, cells: &[u8; 2048]) -> Ruling
     if is_certified(standing) {
         return Ruling::Refuse(9);
     }
-    if other_holds(cells, Mark::Certify, reader, i) {
-        return Ruling::Wait(lowest_holder(cells, 1, reader, i));
+    let holder = read_holder(cells, reader, i);
+    if let Found::At(p) = holder {
+        return Ruling::Wait(p);
     }
     grant(
         answer_read(cells, x, case.pending, reader, i),
@@ -186,8 +167,9 @@ fn judge_write(case: Case, cells: &[u8; 2048]) -> Ruling
     if 4294967295 <= x.version {
         return Ruling::Refuse(10);
     }
-    if other_claims(cells, writer, i) {
-        return Ruling::Wait(lowest_holder(cells, 2, writer, i));
+    let holder = write_holder(cells, writer, i);
+    if let Found::At(p) = holder {
+        return Ruling::Wait(p);
     }
     grant(Answer::Done, Change::Write(writer, i, q.value))
 }
@@ -205,9 +187,9 @@ fn judge_certify(case: Case, cells: &[u8; 2048]) -> Ruling
     if is_certified(standing) {
         return Ruling::Refuse(9);
     }
-    let awaited = first_awaited(cells, certifier);
-    if let Found::At(i) = awaited {
-        return Ruling::Wait(lowest_holder(cells, 3, certifier, i));
+    let holder = certify_holder(cells, certifier);
+    if let Found::At(p) = holder {
+        return Ruling::Wait(p);
     }
     grant(Answer::Done, Change::Certify(certifier))
 }

@@ -1,6 +1,6 @@
 use borrow.Author.Needs.{needs}
 use Rattle.house.proofs.Branches.{followed}
-use Rattle.judge.proofs.Laws.{near, hindered, held-there, held-nowhere}
+use Rattle.judge.proofs.Laws.{certify-held}
 use Rattle.ruling.specs.Judged.{certifyRuled}
 use Rattle.judge.proofs.judge_certify.Statement.{statement}
 use Rattle.judge.proofs.judge_certify.Tie as tie
@@ -19,18 +19,15 @@ returns-2 : tie.Need-returns-2
 unfolding certifyRuled
 returns-2 c = search followed
 
-first-awaited-requires : tie.Need-first-awaited-requires
-first-awaited-requires c κs = search needs
+certify-holder-requires : tie.Need-certify-holder-requires
+certify-holder-requires c κs = search needs
 
-enum-known-awaited : tie.Need-enum-known-awaited
-enum-known-awaited c = search needs
-
-lowest-holder-requires : tie.Need-lowest-holder-requires
-lowest-holder-requires c κs = search (needs, near, hindered)
+enum-known-holder : tie.Need-enum-known-holder
+enum-known-holder c = search needs
 
 returns-3 : tie.Need-returns-3
 unfolding certifyRuled
-returns-3 c = search (followed, held-there)
+returns-3 c = search (followed, certify-held)
 
 enum-told : tie.Need-enum-told
 enum-told c = search needs
@@ -40,7 +37,7 @@ grant-requires c κs = search needs
 
 returns-4 : tie.Need-returns-4
 unfolding certifyRuled
-returns-4 c = search (followed, held-nowhere)
+returns-4 c = search (followed, certify-held)
 
 pub judge-certify-spec : {M : Type 1} → statement M
 judge-certify-spec =
@@ -50,9 +47,8 @@ judge-certify-spec =
     returns
     is-certified-requires
     returns-2
-    first-awaited-requires
-    enum-known-awaited
-    lowest-holder-requires
+    certify-holder-requires
+    enum-known-holder
     returns-3
     enum-told
     grant-requires

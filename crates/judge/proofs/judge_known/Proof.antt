@@ -2,7 +2,7 @@
 -- brings its own needs and shifts nothing.
 use borrow.Author.Needs.{needs}
 use Rattle.house.proofs.Branches.{followed}
-use Rattle.judge.proofs.Laws.{granted}
+use Rattle.judge.proofs.Laws.{granted, asked}
 use Rattle.ruling.specs.Judged.{knownRuled}
 use Rattle.judge.proofs.judge_known.Statement.{statement}
 use Rattle.judge.proofs.judge_known.Tie as tie
@@ -50,7 +50,7 @@ returns-5 c = search followed depth 20
 
 returns-6 : tie.Need-returns-6
 unfolding knownRuled
-returns-6 c = search (followed, granted) depth 20
+returns-6 c = search (followed, granted, asked) depth 20
 
 pub judge-known-spec : {M : Type 1} → statement M
 judge-known-spec =
