@@ -35,9 +35,11 @@ static struct {
     struct place places[PLACES];
     uint32_t next_ticket[LEVELS];
     uint8_t order[TABLE_BYTES];
+    uint8_t rule;
 } house;
 
 static DB_ENV *env;
+static uint32_t another;   // the id of a locker that keeps no lock
 static uint64_t calls;
 
 // A failure that is no conflict has no place in document 01: stop, so that no figure comes of it.
@@ -65,6 +67,7 @@ bool bdb_start(void) {
     if (status == 0) status = env->set_lk_partitions(env, 1);
     if (status == 0)
         status = env->open(env, NULL, DB_CREATE | DB_PRIVATE | DB_INIT_LOCK, 0);
+    if (status == 0) status = env->lock_id(env, &another);
     if (status == 0) return true;
     fprintf(stderr, "Berkeley DB: %s\n", db_strerror(status));
     return false;
@@ -116,10 +119,11 @@ int bdb_open(const struct opening *o) {
     memset(&house, 0, sizeof house);
     calls = 0;
     for (int l = 0; l < LEVELS; l++) house.next_ticket[l] = 1;
-    memcpy(house.order, chain, sizeof house.order);   // a refused opening holds the old chain
+    memcpy(house.order, chain, sizeof house.order);   // a refused opening holds the old chain, and rule A
     int refusal = misopened(o);
     if (refusal) return refusal;
     memcpy(house.order, o->table, sizeof house.order);
+    house.rule = o->rule;
     house.count = o->levels_len;
     memcpy(house.level, o->levels, o->levels_len);
     return 0;
@@ -147,19 +151,31 @@ static int begin(const struct request *q, struct reply *a) {
     return DONE;
 }
 
+// Whether a lock of this mode on the item would be granted to somebody who has none.
+static bool is_free(uint16_t item, int mode) {
+    DB_LOCK lock;
+    if (!locked(another, item, mode, &lock)) return false;
+    calls++;
+    must(env->lock_put(env, &lock), "lock_put");
+    return true;
+}
+
 static int read_item(const struct request *q, struct place *me, struct reply *a) {
     if (q->item >= house.count) return NO_ITEM;
     if (!dominates(house.order, q->level, house.level[q->item])) return WRONG_LEVEL;
     if (me->signalled) return SIGNALLED;
     if (me->standing != ACTIVE) return WRONG_TIME;
     uint64_t bit = UINT64_C(1) << q->item;
-    // A lock that is held is not asked for again: no certify can have come over it from its level,
-    // and one from below has signalled it, which was answered 2 above.
+    // A lock that is held is not asked for again: no certify can have come over it from its level, and one
+    // from below has signalled it, which was answered 2 above. Under rule B it has not, and since nobody is
+    // in the way of a lock that he has, another asks.
+    int mode = house.level[q->item] != q->level ? MODE_SIGNAL : MODE_READ;
     if (!(me->reads & bit)) {
         DB_LOCK lock;
-        int mode = house.level[q->item] != q->level ? MODE_SIGNAL : MODE_READ;
         if (!locked(me->locker, q->item, mode, &lock)) return delayed(q, q->item, me, a);
         me->reads |= bit;
+    } else if (mode == MODE_SIGNAL && house.rule == RULE_B && !is_free(q->item, mode)) {
+        return delayed(q, q->item, me, a);
     }
     bool own = me->writes & bit;
     a->value = own ? house.pending[q->item] : house.value[q->item];
@@ -182,6 +198,14 @@ static int write_item(const struct request *q, struct place *me, struct reply *a
     }
     house.pending[q->item] = q->value;
     return DONE;
+}
+
+static void signal_readers(int level, uint64_t written) {
+    for (int p = 0; p < PLACES; p++) {
+        int l = p / PLACES_PER_LEVEL;
+        if (l != level && dominates(house.order, l, level))
+            house.places[p].signalled |= house.places[p].reads & written;
+    }
 }
 
 // All write locks become certify locks or none does: the certify locks are taken beside the write
@@ -218,11 +242,7 @@ static int certify(const struct request *q, struct place *me, struct reply *a) {
         // They were asked for from the lowest item on, and the first that was not granted ended it.
         if (!granted) return delayed(q, numbers[got], me, a);
     }
-    for (int p = 0; p < PLACES; p++) {
-        int l = p / PLACES_PER_LEVEL;
-        if (l != q->level && dominates(house.order, l, q->level))
-            house.places[p].signalled |= house.places[p].reads & me->writes;
-    }
+    if (signals_at(house.rule, CERTIFY)) signal_readers(q->level, me->writes);
     me->standing = CERTIFIED;
     return DONE;
 }
@@ -240,9 +260,10 @@ static int end(struct place *me, bool keep) {
     return DONE;
 }
 
-static int commit(struct place *me) {
+static int commit(const struct request *q, struct place *me) {
     if (me->signalled) return SIGNALLED;
     if (me->standing != CERTIFIED) return WRONG_TIME;
+    if (signals_at(house.rule, COMMIT)) signal_readers(q->level, me->writes);
     return end(me, true);
 }
 
@@ -266,7 +287,7 @@ static int serve(const struct request *q, struct reply *a) {
     case READ: return read_item(q, me, a);
     case WRITE: return write_item(q, me, a);
     case CERTIFY: return certify(q, me, a);
-    case COMMIT: return commit(me);
+    case COMMIT: return commit(q, me);
     case ABORT: return end(me, false);
     default: return ask(me, a);
     }

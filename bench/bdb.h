@@ -8,7 +8,7 @@
 bool bdb_start(void);
 void bdb_stop(void);
 
-// Lets all locks and locker ids of an earlier run go, and opens. Gives 0, 13, 14 or 16.
+// Lets all locks and locker ids of an earlier run go, and opens. Gives 0, 13, 14, 16 or 28.
 int bdb_open(const struct opening *o);
 
 size_t bdb_turn(const uint8_t *requests, size_t requests_len, uint8_t *replies, size_t replies_len,

@@ -1,12 +1,12 @@
-// The worked day and M1 to M12 of document 01, two subjects side by side (CR 6), and a map, through the calls of the static library.
-// Says each difference; the exit status is 1 where there is one.
+// The worked day and M1 to M12 of document 01, two subjects side by side (CR 6), M11 and M12 under rule B (CR 7), and a map, through the
+// calls of the static library. Says each difference; the exit status is 1 where there is one.
 #include "proved.h"
 #include "wire.h"
 
 #include <stdio.h>
 #include <string.h>
 
-enum { MOST_STEPS = 16, GUARD = 0xa5 };
+enum { MOST_STEPS = 24, GUARD = 0xa5 };
 
 struct step {
     struct request request;
@@ -24,10 +24,14 @@ struct example {
 #define DIAMOND {1, 1, 1, 1, 0, 1, 0, 1, 0, 0, 1, 1, 0, 0, 0, 1}
 static const uint8_t diamond[TABLE_BYTES] = DIAMOND, no_order[TABLE_BYTES] = {0};
 static const uint8_t marked_levels[] = {0, 0, 2}, each_level[] = {0, 1, 2, 3};
-static const struct opening marked = {marked_levels, sizeof marked_levels, chain, sizeof chain},
-                            one_item = {each_level, 1, diamond, sizeof diamond},
-                            subjects = {each_level, sizeof each_level, diamond, sizeof diamond},
-                            refused = {each_level, sizeof each_level, no_order, sizeof no_order};
+static const struct opening marked = {marked_levels, sizeof marked_levels, chain, sizeof chain, RULE_A},
+                            marked_b = {marked_levels, sizeof marked_levels, chain, sizeof chain, RULE_B},
+                            one_item = {each_level, 1, diamond, sizeof diamond, RULE_A},
+                            subjects = {each_level, sizeof each_level, diamond, sizeof diamond, RULE_A},
+                            recipe_b = {marked_levels, sizeof marked_levels, diamond, sizeof diamond, RULE_B},
+                            subjects_b = {each_level, sizeof each_level, diamond, sizeof diamond, RULE_B},
+                            refused = {each_level, sizeof each_level, no_order, sizeof no_order, RULE_B},
+                            no_rule = {each_level, sizeof each_level, diamond, sizeof diamond, RULES};
 
 // A request beside the reply it must get; l is a level, t a ticket, i an item, n a number; a delay has
 // its holder's ticket and level.
@@ -35,6 +39,7 @@ static const struct opening marked = {marked_levels, sizeof marked_levels, chain
 #define BEGIN_REFUSED(l, n) {{BEGIN, l, 0, 0, 0}, {n, BEGIN, 0, 0, 0, 0}}
 #define READS(l, t, i, value, version) {{READ, l, i, t, 0}, {DONE, READ, i, t, value, version}}
 #define READ_REFUSED(l, t, i, n) {{READ, l, i, t, 0}, {n, READ, i, t, 0, 0}}
+#define READ_DELAYED(l, t, i, holder, level) {{READ, l, i, t, 0}, {DELAYED, READ, i, t, holder, level}}
 #define WRITES(l, t, i, value, n) {{WRITE, l, i, t, value}, {n, WRITE, i, t, 0, 0}}
 #define WRITE_DELAYED(l, t, i, value, holder, level)                                             \
     {{WRITE, l, i, t, value}, {DELAYED, WRITE, i, t, holder, level}}
@@ -50,9 +55,9 @@ static const struct opening marked = {marked_levels, sizeof marked_levels, chain
         BEGINS(0, 7), BEGINS(0, 8), BEGIN_REFUSED(0, PLACES_TAKEN), BEGINS(1, 1)
 #define UP_TO_M8 THREE_OPEN, WRITES(0, 1, 0, 7, DONE), WRITE_DELAYED(0, 2, 0, 8, 1, 0)
 #define UP_TO_M9 UP_TO_M8, READS(0, 2, 0, 0, 0), CERTIFY_DELAYED(0, 1, 2, 0)
-#define UP_TO_M11                                                                                \
-    THREE_OPEN, READS(2, 1, 0, 0, 0), WRITES(0, 1, 0, 7, DONE), CALLS(CERTIFY, 0, 1, DONE),      \
-        CALLS(CERTIFY, 2, 1, SIGNALLED), ASKS(2, 1, 0, 1)
+#define UP_TO_CERTIFY                                                                            \
+    THREE_OPEN, READS(2, 1, 0, 0, 0), WRITES(0, 1, 0, 7, DONE), CALLS(CERTIFY, 0, 1, DONE)
+#define UP_TO_M11 UP_TO_CERTIFY, CALLS(CERTIFY, 2, 1, SIGNALLED), ASKS(2, 1, 0, 1)
 
 static const struct step m1[] = {THREE_OPEN, READ_REFUSED(0, 1, 2, WRONG_LEVEL)};
 static const struct step m2[] = {THREE_OPEN, WRITES(2, 1, 0, 7, WRONG_LEVEL)};
@@ -73,6 +78,39 @@ static const struct step m10[] = {UP_TO_M9,
 static const struct step m11[] = {UP_TO_M11};
 static const struct step m12[] = {UP_TO_M11, CALLS(ABORT, 0, 1, DONE),
                                   CALLS(CERTIFY, 2, 1, SIGNALLED)};
+// Under rule B the certify of M11 signals nobody: the teacher may end her work before the pupil commits, is signalled by the commit, and
+// is left alone by an abort.
+static const struct step spared_by_certify[] = {UP_TO_CERTIFY,
+                                                ASKS(2, 1, 0, 0),
+                                                WRITES(2, 1, 2, 90, DONE),
+                                                CALLS(CERTIFY, 2, 1, DONE),
+                                                CALLS(COMMIT, 2, 1, DONE),
+                                                CALLS(COMMIT, 0, 1, DONE),
+                                                BEGINS(2, 2),
+                                                READS(2, 2, 0, 7, 1),
+                                                READS(2, 2, 2, 90, 1)};
+static const struct step signalled_by_commit[] = {UP_TO_CERTIFY,
+                                                  CALLS(COMMIT, 0, 1, DONE),
+                                                  ASKS(2, 1, 0, 1),
+                                                  CALLS(CERTIFY, 2, 1, SIGNALLED),
+                                                  CALLS(ABORT, 2, 1, DONE)};
+static const struct step signalled_certified[] = {UP_TO_CERTIFY, CALLS(CERTIFY, 2, 1, DONE),
+                                                  CALLS(COMMIT, 0, 1, DONE),
+                                                  CALLS(COMMIT, 2, 1, SIGNALLED)};
+static const struct step spared_by_abort[] = {UP_TO_CERTIFY,
+                                              CALLS(ABORT, 0, 1, DONE),
+                                              ASKS(2, 1, 0, 0),
+                                              CALLS(CERTIFY, 2, 1, DONE),
+                                              CALLS(COMMIT, 2, 1, DONE)};
+// The guide's recipe under rule B: the pupil gives up, and the next time commits.
+static const struct step gives_up[] = {
+    BEGINS(0, 1), BEGINS(2, 1), READS(2, 1, 0, 0, 0), WRITES(0, 1, 0, 7, DONE),
+    CALLS(CERTIFY, 0, 1, DONE), ASKS(2, 1, 0, 0), READ_DELAYED(2, 1, 0, 1, 0),
+    WRITES(2, 1, 2, 90, DONE), CALLS(ABORT, 0, 1, DONE), CALLS(CERTIFY, 2, 1, DONE),
+    CALLS(COMMIT, 2, 1, DONE), BEGINS(0, 2), BEGINS(2, 2), READS(2, 2, 0, 0, 0),
+    WRITES(0, 2, 0, 8, DONE), CALLS(CERTIFY, 0, 2, DONE), ASKS(2, 2, 0, 0),
+    CALLS(COMMIT, 0, 2, DONE), ASKS(2, 2, 0, 1), CALLS(CERTIFY, 2, 2, SIGNALLED),
+    CALLS(ABORT, 2, 2, DONE)};
 // On the diamond, one item at each level: item 1 is geography's, item 2 history's.
 #define ONE_OF_EACH BEGINS(0, 1), BEGINS(1, 1), BEGINS(2, 1), BEGINS(3, 1)
 static const struct step geography_reads[] = {
@@ -89,6 +127,10 @@ static const struct step geography_certifies[] = {
     ONE_OF_EACH, READS(2, 1, 2, 0, 0), READS(3, 1, 1, 0, 0), WRITES(1, 1, 1, 7, DONE),
     CALLS(CERTIFY, 1, 1, DONE), ASKS(0, 1, 0, 0), ASKS(2, 1, 0, 0), ASKS(3, 1, 1, 1),
     CALLS(CERTIFY, 2, 1, DONE), CALLS(CERTIFY, 3, 1, SIGNALLED)};
+static const struct step geography_commits[] = {
+    ONE_OF_EACH, READS(2, 1, 0, 0, 0), READS(3, 1, 1, 0, 0), WRITES(1, 1, 1, 7, DONE),
+    CALLS(CERTIFY, 1, 1, DONE), ASKS(3, 1, 0, 0), CALLS(COMMIT, 1, 1, DONE), ASKS(2, 1, 0, 0),
+    ASKS(3, 1, 1, 1)};
 // A refused opening has no items, and its turn is served too.
 static const struct step without_items[] = {BEGINS(3, 1), READ_REFUSED(3, 1, 0, NO_ITEM)};
 // A map of level 2, ticket 1, that meets an item that does not exist, and an item again. Its lock on item 0 is signalled later.
@@ -125,11 +167,18 @@ static const struct example examples[] = {
     EXAMPLE("M10", marked, m10),
     EXAMPLE("M11", marked, m11),
     EXAMPLE("M12", marked, m12),
+    EXAMPLE("M11 under B, the teacher commits in between", marked_b, spared_by_certify),
+    EXAMPLE("M11 under B, the commit signals", marked_b, signalled_by_commit),
+    EXAMPLE("M11 under B, the commit signals who is certified", marked_b, signalled_certified),
+    EXAMPLE("M12 under B, the abort signals nobody", marked_b, spared_by_abort),
+    EXAMPLE("a pupil gives up under B", recipe_b, gives_up),
     EXAMPLE("geography reads", subjects, geography_reads),
     EXAMPLE("history reads", subjects, history_reads),
     EXAMPLE("a pupil certifies", subjects, pupil_certifies),
     EXAMPLE("geography certifies", subjects, geography_certifies),
+    EXAMPLE("geography commits under B", subjects_b, geography_commits),
     EXAMPLE("a refused opening", refused, without_items),
+    EXAMPLE("a rule that is none", no_rule, without_items),
 };
 
 static const struct example map_parts[] = {
@@ -171,41 +220,52 @@ static size_t calls, differing;
 
 static size_t least(size_t a, size_t b) { return a < b ? a : b; }
 
-// Openings: done, and refused by length before level, by level before the table.
+// Openings: done under either rule, and refused by rule before length, by length before level, by level before the table.
+static const struct {
+    uint8_t levels[65];
+    size_t count;
+    uint8_t table[TABLE_BYTES + 1];
+    size_t table_len;
+    uint8_t rule, number;
+} openings[] = {
+    {{0}, 1, DIAMOND, 16, 0, 0},
+    {{0}, 1, DIAMOND, 16, 1, 0},
+    {{0}, 1, DIAMOND, 16, 2, 28},
+    {{0}, 1, DIAMOND, 16, 255, 28},
+    {{0}, 0, DIAMOND, 16, 2, 28},
+    {{0, 4}, 2, {2}, 15, 255, 28},
+    {{0, 4}, 2, {2}, 15, 1, 13},
+    {{0, 4}, 2, DIAMOND, 16, 1, 14},
+    {{0}, 1, {0}, 16, 1, 16},
+    {{0, 3, 1}, 3, {1, 1, 1, 1, 0, 1, 1, 1, 0, 0, 1, 1, 0, 0, 0, 1}, 16, 0, 0},
+    {{3}, 1, {1, 0, 0, 0, 1, 1, 0, 0, 1, 1, 1, 0, 1, 1, 1, 1}, 16, 0, 0},   // 0 above all
+    {{0}, 1, {1, 0, 0, 0, 0, 1, 0, 0, 0, 0, 1, 0, 0, 0, 0, 1}, 16, 0, 0},   // none above another
+    {{0}, 0, DIAMOND, 16, 0, 13},
+    {{4}, 65, DIAMOND, 16, 0, 13},
+    {{0}, 1, DIAMOND, 0, 0, 13},
+    {{0, 4}, 2, DIAMOND, 15, 0, 13},
+    {{0, 4}, 2, DIAMOND, 17, 0, 13},
+    {{0, 4}, 2, DIAMOND, 16, 0, 14},
+    {{0, 4}, 2, {2}, 16, 0, 14},
+    {{0}, 1, {2, 1, 1, 1, 0, 1, 0, 1, 0, 0, 1, 1, 0, 0, 0, 1}, 16, 0, 16},
+    {{0}, 1, {1, 255, 1, 1, 0, 1, 0, 1, 0, 0, 1, 1, 0, 0, 0, 1}, 16, 0, 16},
+    {{0}, 1, {1, 1, 1, 1, 0, 1, 0, 1, 0, 0, 0, 1, 0, 0, 0, 1}, 16, 0, 16},   // 2 not by itself
+    {{0}, 1, {1, 1, 1, 1, 0, 1, 1, 1, 0, 1, 1, 1, 0, 0, 0, 1}, 16, 0, 16},   // 1 and 2 by each other
+    {{0}, 1, {1, 1, 0, 0, 0, 1, 0, 1, 0, 0, 1, 1, 0, 0, 0, 1}, 16, 0, 16},   // 0 by 1, 1 by 3, 0 not by 3
+};
+
 static void try_openings(void) {
-    static const struct {
-        uint8_t levels[65];
-        size_t count;
-        uint8_t table[TABLE_BYTES + 1];
-        size_t table_len;
-        uint8_t number;
-    } openings[] = {
-        {{0}, 1, DIAMOND, 16, 0},
-        {{0, 3, 1}, 3, {1, 1, 1, 1, 0, 1, 1, 1, 0, 0, 1, 1, 0, 0, 0, 1}, 16, 0},
-        {{3}, 1, {1, 0, 0, 0, 1, 1, 0, 0, 1, 1, 1, 0, 1, 1, 1, 1}, 16, 0},   // 0 above all
-        {{0}, 1, {1, 0, 0, 0, 0, 1, 0, 0, 0, 0, 1, 0, 0, 0, 0, 1}, 16, 0},   // none above another
-        {{0}, 0, DIAMOND, 16, 13},
-        {{4}, 65, DIAMOND, 16, 13},
-        {{0}, 1, DIAMOND, 0, 13},
-        {{0, 4}, 2, DIAMOND, 15, 13},
-        {{0, 4}, 2, DIAMOND, 17, 13},
-        {{0, 4}, 2, DIAMOND, 16, 14},
-        {{0, 4}, 2, {2}, 16, 14},
-        {{0}, 1, {2, 1, 1, 1, 0, 1, 0, 1, 0, 0, 1, 1, 0, 0, 0, 1}, 16, 16},
-        {{0}, 1, {1, 255, 1, 1, 0, 1, 0, 1, 0, 0, 1, 1, 0, 0, 0, 1}, 16, 16},
-        {{0}, 1, {1, 1, 1, 1, 0, 1, 0, 1, 0, 0, 0, 1, 0, 0, 0, 1}, 16, 16},   // 2 not by itself
-        {{0}, 1, {1, 1, 1, 1, 0, 1, 1, 1, 0, 1, 1, 1, 0, 0, 0, 1}, 16, 16},   // 1 and 2 by each other
-        {{0}, 1, {1, 1, 0, 0, 0, 1, 0, 1, 0, 0, 1, 1, 0, 0, 0, 1}, 16, 16},   // 0 by 1, 1 by 3, 0 not by 3
-    };
     for (size_t k = 0; k < sizeof openings / sizeof *openings; k++, calls++) {
-        uint8_t number = desk_fresh_open(openings[k].levels, openings[k].count, openings[k].table, openings[k].table_len);
+        struct opening o = {openings[k].levels, openings[k].count, openings[k].table, openings[k].table_len,
+                            openings[k].rule};
+        uint8_t number = desk_fresh_open(OPENED_WITH(&o));
         if (number == openings[k].number) continue;
         printf("opening %zu: %u, not %u\n", k + 1, number, openings[k].number);
         differing++;
     }
 }
 
-typedef size_t turn(const uint8_t *levels, size_t levels_len, const uint8_t *table, size_t table_len,
+typedef size_t turn(const uint8_t *levels, size_t levels_len, const uint8_t *table, size_t table_len, uint8_t rule,
                     const uint8_t *requests, size_t requests_len, uint8_t *replies, size_t replies_len, size_t most);
 
 static const struct {
@@ -278,6 +338,7 @@ int main(void) {
     // More than all places, and one byte too few for the last.
     try_map(5 * REPLY_BYTES + 9);
     try_map(4 * REPLY_BYTES - 1);
-    printf("openings, the worked day, M1 to M12, two subjects and a map: %zu calls, %zu differ\n", calls, differing);
+    printf("openings, the worked day, M1 to M12, M11 and M12 under rule B, two subjects and a map: %zu calls, %zu differ\n",
+           calls, differing);
     return differing == 0 ? 0 : 1;
 }

@@ -65,24 +65,28 @@ version_of() { # COMPILER
     esac
 }
 
-# Builds bench/NAME.c with the static library into $out/NAME; $with_library runs it. The library is for x86-64: elsewhere the kit's
-# own clang, linker and C library make the program, and its emulator runs it.
+# Builds bench/NAME.c, and others beside it, with the static library into $out/NAME; $with_library runs it. The library is for x86-64:
+# elsewhere the kit's own clang, linker and C library make the program, and its emulator runs it.
 with_library=''
 if ! library_is_native; then with_library="$emulator $tools/lib/ld-linux-x86-64.so.2 --library-path $tools/lib "; fi
-build_with_library() { # NAME
-    local lib=$tools/lib
+build_with_library() { # NAME [OTHER..]
+    local program=$out/$1 lib=$tools/lib name objects=()
+    local flags="$strict -O2 -DWITH_PROVED"
     if library_is_native; then
-        # shellcheck disable=SC2086
-        $cc $strict -O2 "bench/$1.c" "$LIBRARY" -o "$out/$1"
+        # shellcheck disable=SC2046,SC2086
+        $cc $flags $(printf 'bench/%s.c ' "$@") "$LIBRARY" -o "$program"
         return
     fi
     [ -x "$emulator" ] || die "the library is for x86-64, and the kit has no emulator for $machine"
-    # This machine's C headers serve: the programs use no more than printf, streams, malloc and the mem functions.
-    # shellcheck disable=SC2086
-    "$tools/bin/clang" --target=x86_64-unknown-linux-gnu $strict -O2 -fPIE -nostdinc -isystem "$($cc -print-file-name=include)" \
-        -isystem "/usr/include/$($cc -dumpmachine)" -isystem /usr/include -c "bench/$1.c" -o "$out/$1.o"
-    "$tools/bin/ld.lld" -pie -dynamic-linker "$lib/ld-linux-x86-64.so.2" -o "$out/$1" "$lib/Scrt1.o" "$lib/crti.o" "$lib/crtbeginS.o" \
-        "$out/$1.o" "$LIBRARY" "$lib/libc.so.6" "$lib/libc_nonshared.a" "$lib/libgcc.a" "$lib/crtendS.o" "$lib/crtn.o"
+    for name; do
+        # This machine's C headers serve: the programs use no more than printf, streams, malloc, and the str and mem functions.
+        # shellcheck disable=SC2086
+        "$tools/bin/clang" --target=x86_64-unknown-linux-gnu $flags -fPIE -nostdinc -isystem "$($cc -print-file-name=include)" \
+            -isystem "/usr/include/$($cc -dumpmachine)" -isystem /usr/include -c "bench/$name.c" -o "$out/$name-library.o"
+        objects+=("$out/$name-library.o")
+    done
+    "$tools/bin/ld.lld" -pie -dynamic-linker "$lib/ld-linux-x86-64.so.2" -o "$program" "$lib/Scrt1.o" "$lib/crti.o" "$lib/crtbeginS.o" \
+        "${objects[@]}" "$LIBRARY" "$lib/libc.so.6" "$lib/libc_nonshared.a" "$lib/libgcc.a" "$lib/crtendS.o" "$lib/crtn.o"
 }
 
 # Builds bench and drive in FOLDER. `tuned_by` says who compiles the tuned desk; WORDS: bdb, or a library to link.

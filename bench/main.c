@@ -31,16 +31,17 @@ static uint64_t now(void) {
 }
 
 // All that is timed, and all that is counted: callgrind collects while this function runs.
-__attribute__((noinline)) size_t served(const struct desk *desk, const uint8_t *requests,
-                                        size_t count, uint8_t *replies) {
-    return desk->run(&traffic_opening, requests, count * REQUEST_BYTES, replies, count * REPLY_BYTES);
+__attribute__((noinline)) size_t served(const struct desk *desk, const struct opening *o,
+                                        const uint8_t *requests, size_t count, uint8_t *replies) {
+    return desk->run(o, requests, count * REQUEST_BYTES, replies, count * REPLY_BYTES);
 }
 
-static uint64_t serve_all(const struct desk *desk, const uint8_t *requests, size_t count,
-                          uint8_t *replies) {
-    desk->open(&traffic_opening);
+static uint64_t serve_all(const struct desk *desk, enum mix mix, const uint8_t *requests,
+                          size_t count, uint8_t *replies) {
+    const struct opening *o = traffic_opening(mix);
+    desk->open(o);
     uint64_t began = now();
-    size_t answered = served(desk, requests, count, replies);
+    size_t answered = served(desk, o, requests, count, replies);
     uint64_t took = now() - began;
     if (answered != count) {
         fprintf(stderr, "bench: %s answered %zu of %zu requests\n", desk->name, answered, count);
@@ -54,7 +55,7 @@ static void compare(enum mix mix, const uint8_t *requests, size_t count, const u
                     uint8_t *replies) {
     for (size_t d = 1; d < desk_count; d++) {
         memset(replies, 0xee, count * REPLY_BYTES);
-        serve_all(&desks[d], requests, count, replies);
+        serve_all(&desks[d], mix, requests, count, replies);
         size_t k = 0;
         while (k < count * REPLY_BYTES && replies[k] == expected[k]) k++;
         if (k == count * REPLY_BYTES) continue;
@@ -86,7 +87,7 @@ static void time_desks(const char *what, enum mix mix, const uint8_t *requests, 
     for (size_t d = 0; d < desk_count; d++) least[d] = UINT64_MAX;
     for (int r = 0; r < rounds; r++) {
         for (size_t d = 0; d < desk_count; d++) {
-            uint64_t took = serve_all(&desks[d], requests, count, replies);
+            uint64_t took = serve_all(&desks[d], mix, requests, count, replies);
             if (took < least[d]) least[d] = took;
         }
     }
@@ -99,7 +100,7 @@ static void time_mix(enum mix mix, size_t count, int rounds) {
     uint8_t *requests = need(count * REQUEST_BYTES);
     uint8_t *expected = need(count * REPLY_BYTES), *replies = need(count * REPLY_BYTES);
     traffic_make(mix, SEED, requests, count);
-    serve_all(&desks[0], requests, count, expected);
+    serve_all(&desks[0], mix, requests, count, expected);
     tell_mix(mix, expected, count);
     compare(mix, requests, count, expected, replies);
     if (desk_named("bdb"))
@@ -131,12 +132,19 @@ static void make(enum mix mix, size_t count) {
 }
 
 // One desk on the traffic of standard input, for the counting of instructions.
-static void once(const struct desk *desk, size_t count, int times) {
+static void once(const struct desk *desk, enum mix mix, size_t count, int times) {
     uint8_t *requests = need(count * REQUEST_BYTES), *replies = need(count * REPLY_BYTES);
     if (fread(requests, REQUEST_BYTES, count, stdin) != count) exit(2);
-    for (int t = 0; t < times; t++) serve_all(desk, requests, count, replies);
+    for (int t = 0; t < times; t++) serve_all(desk, mix, requests, count, replies);
     free(requests);
     free(replies);
+}
+
+// MIXES where there is none of that name.
+static enum mix mix_named(const char *name) {
+    int mix = 0;
+    while (mix < MIXES && strcmp(mix_names[mix], name) != 0) mix++;
+    return (enum mix)mix;
 }
 
 static size_t number(const char *word) { return strtoul(word, NULL, 10); }
@@ -249,7 +257,7 @@ static int usage(void) {
                     "       bench time REQUESTS ROUNDS\n"
                     "       bench growth MOST ROUNDS\n"
                     "       bench make MIX REQUESTS\n"
-                    "       bench once DESK REQUESTS TIMES\n");
+                    "       bench once DESK MIX REQUESTS TIMES\n");
 #ifdef WITH_PROVED
     fprintf(stderr, "       bench ways\n"
                     "       bench maps ROUNDS\n"
@@ -269,13 +277,10 @@ static int act(int words, char **word) {
             time_mix((enum mix)mix, number(word[1]), (int)number(word[2]));
     } else if (strcmp(mode, "growth") == 0 && words == 3) {
         growth(number(word[1]), (int)number(word[2]));
-    } else if (strcmp(mode, "make") == 0 && words == 3) {
-        int mix = 0;
-        while (mix < MIXES && strcmp(mix_names[mix], word[1]) != 0) mix++;
-        if (mix == MIXES) return usage();
-        make((enum mix)mix, number(word[2]));
-    } else if (strcmp(mode, "once") == 0 && words == 4 && desk_named(word[1])) {
-        once(desk_named(word[1]), number(word[2]), (int)number(word[3]));
+    } else if (strcmp(mode, "make") == 0 && words == 3 && mix_named(word[1]) != MIXES) {
+        make(mix_named(word[1]), number(word[2]));
+    } else if (strcmp(mode, "once") == 0 && words == 5 && desk_named(word[1]) && mix_named(word[2]) != MIXES) {
+        once(desk_named(word[1]), mix_named(word[2]), number(word[3]), (int)number(word[4]));
     } else if (act_on_maps(words, word) != 0) {
         return usage();
     }

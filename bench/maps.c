@@ -1,9 +1,9 @@
 // One map by `desk_fresh_map`, for `peer maps`: standard input is a case, standard output what the call left.
 //
 // The case, numbers little-endian, its bytes counted in brackets: the count of levels [1], the levels [1 each]; the length of the table
-// [1], its bytes [1 each]; the map's level [1] and ticket [4]; the count of its items [2], the items [2 each]; the length of the map's
-// reply buffer in bytes [2]; the count of requests before it [2], these requests [12 each]; and all the rest are the requests after it,
-// the last perhaps unfinished.
+// [1], its bytes [1 each]; the rule [1]; the map's level [1] and ticket [4]; the count of its items [2], the items [2 each]; the length
+// of the map's reply buffer in bytes [2]; the count of requests before it [2], these requests [12 each]; and all the rest are the
+// requests after it, the last perhaps unfinished.
 //
 // The output: the number of the opening, by `desk_fresh_open` [1]; the count that the call gave [8], the replies to the requests before
 // [16 each], the whole reply buffer of the map, 16 bytes behind it that were not lent, the replies to the whole requests after [16 each].
@@ -57,6 +57,7 @@ int main(void) {
     o.levels = take(&in, o.levels_len, "the last level");
     o.table_len = *take(&in, 1, "the length of the table");
     o.table = take(&in, o.table_len, "the end of the table");
+    o.rule = *take(&in, 1, "the rule");
     uint8_t level = *take(&in, 1, "the map's level");
     uint32_t ticket = get32(take(&in, 4, "the map's ticket"));
     size_t count = get16(take(&in, 2, "the count of items"));

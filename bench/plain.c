@@ -8,10 +8,11 @@ enum { NOBODY = -1 };
 int plain_open(struct plain_house *h, const struct opening *o) {
     memset(h, 0, sizeof *h);
     for (int l = 0; l < LEVELS; l++) h->next_ticket[l] = 1;
-    memcpy(h->order, chain, sizeof h->order);   // a refused opening holds the old chain
+    memcpy(h->order, chain, sizeof h->order);   // a refused opening holds the old chain, and rule A
     int refusal = misopened(o);
     if (refusal) return refusal;
     memcpy(h->order, o->table, sizeof h->order);
+    h->rule = o->rule;
     h->count = o->levels_len;
     for (size_t i = 0; i < h->count; i++) h->items[i].level = o->levels[i];
     return 0;
@@ -84,10 +85,13 @@ static int write_item(struct plain_house *h, const struct request *q, int me, st
     return DONE;
 }
 
+// Each read lock on the item held from above the level is marked.
 static void signal_readers(struct plain_house *h, size_t item, int level) {
-    int first = level * PLACES_PER_LEVEL;
-    for (int p = first; p < first + PLACES_PER_LEVEL; p++)
-        if (h->cells[item][p] & READS) h->cells[item][p] |= IS_SIGNALLED;
+    for (int l = 0; l < LEVELS; l++) {
+        if (l == level || !dominates(h->order, l, level)) continue;
+        for (int p = l * PLACES_PER_LEVEL; p < (l + 1) * PLACES_PER_LEVEL; p++)
+            if (h->cells[item][p] & READS) h->cells[item][p] |= IS_SIGNALLED;
+    }
 }
 
 static int certify(struct plain_house *h, const struct request *q, int me, struct reply *a) {
@@ -100,11 +104,11 @@ static int certify(struct plain_house *h, const struct request *q, int me, struc
         for (int p = first; p < first + PLACES_PER_LEVEL; p++)
             if (p != me && (h->cells[i][p] & READS)) return delayed_by(a, h->places[p].ticket, p);
     }
+    bool signals = signals_at(h->rule, CERTIFY);
     for (size_t i = 0; i < h->count; i++) {
         if (!(h->cells[i][me] & WRITES)) continue;
         h->cells[i][me] ^= WRITES | CERTIFIES;
-        for (int l = 0; l < LEVELS; l++)
-            if (l != q->level && dominates(h->order, l, q->level)) signal_readers(h, i, l);
+        if (signals) signal_readers(h, i, q->level);
     }
     h->places[me].standing = CERTIFIED;
     return DONE;
@@ -112,6 +116,7 @@ static int certify(struct plain_house *h, const struct request *q, int me, struc
 
 // Pending values go, cells are cleared, the place is free; `keep` says that the values stay.
 static void end(struct plain_house *h, int me, bool keep) {
+    bool signals = keep && signals_at(h->rule, COMMIT);
     for (size_t i = 0; i < h->count; i++) {
         if (h->cells[i][me] & (WRITES | CERTIFIES)) {
             struct plain_item *item = &h->items[i];
@@ -120,6 +125,7 @@ static void end(struct plain_house *h, int me, bool keep) {
                 item->version++;
             }
             item->pending = 0;
+            if (signals) signal_readers(h, i, me / PLACES_PER_LEVEL);
         }
         h->cells[i][me] = 0;
     }

@@ -23,10 +23,11 @@ struct plain_house {
     struct plain_place places[PLACES];   // eight for each level, level 0 first
     uint32_t next_ticket[LEVELS];        // 0 when none is left
     uint8_t order[TABLE_BYTES];          // the table of the opening
+    uint8_t rule;
     uint8_t cells[MOST_ITEMS][PLACES];
 };
 
-// Gives 0, or the number of the refused opening (13, 14, 16).
+// Gives 0, or the number of the refused opening (13, 14, 16, 28).
 int plain_open(struct plain_house *h, const struct opening *o);
 
 // Answers whole requests in order and gives their count.

@@ -40,6 +40,18 @@ function figures(what, figure,    d, m, line, mix, desk) {
     }
     print ""
 }
+# Of the pressed traffic under rule B beside that under A (CR 7).
+function under_b(what, figure,    d, desk, a, b) {
+    if (!(("pressed_b", "plain") in figure)) return
+    row(what, " under A | under B | B to A |"); print "|---|---|---|---|"
+    for (d = 1; d <= n; d++) {
+        desk = desks[d]
+        if (!(("pressed_b", desk) in figure)) continue
+        a = figure["pressed", desk]; b = figure["pressed_b", desk]
+        row(words[desk], sprintf(" %.1f | %.1f | %.2f |", a, b, b / a))
+    }
+    print ""
+}
 # Of one call, less the same call without reads, a read's share.
 function per_read(unit, way, base) { return (call[unit, way] - call[unit, base]) / read }
 function maps(    u, line, rule, unit, plain, single, map, units, heads, rows) {
@@ -68,6 +80,9 @@ END {
     figures("ns per request (ratio to plain C; to tuned C)", time)
     if (counted) figures("instructions per request (ratio to plain C; to tuned C)", instructions)
     if (few) figures("x86-64 instructions per request (ratio to plain C; to tuned C)", foreign)
+
+    under_b("pressed: ns per request", time)
+    if (counted) under_b("pressed: instructions per request", instructions)
 
     if (read) maps()
 

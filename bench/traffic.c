@@ -2,14 +2,19 @@
 
 #include "plain.h"
 
-const char *const mix_names[MIXES] = {"refused", "done", "pressed", "lessons"};
+const char *const mix_names[MIXES] = {"refused", "done", "pressed", "lessons", "pressed_b"};
 
 _Static_assert(ITEMS % 4 == 0 && ITEMS > 0 && ITEMS <= 64, "items of the traffic");
 #define FOUR 0, 1, 2, 3
 #define SIXTEEN FOUR, FOUR, FOUR, FOUR
 static const uint8_t levels[MOST_ITEMS] = {SIXTEEN, SIXTEEN, SIXTEEN, SIXTEEN};
-const struct opening traffic_opening = {levels, TRAFFIC_ITEMS, chain, sizeof chain},
-                     full_opening = {levels, MOST_ITEMS, chain, sizeof chain};
+const struct opening full_opening = {levels, MOST_ITEMS, chain, sizeof chain, RULE_A};
+
+const struct opening *traffic_opening(enum mix mix) {
+    static const struct opening openings[RULES] = {{levels, TRAFFIC_ITEMS, chain, sizeof chain, RULE_A},
+                                                   {levels, TRAFFIC_ITEMS, chain, sizeof chain, RULE_B}};
+    return &openings[mix == PRESSED_UNDER_B ? RULE_B : RULE_A];
+}
 
 // Of a thousand requests.
 struct recipe {
@@ -25,14 +30,18 @@ struct recipe {
     unsigned weights[OPERATIONS];
 };
 
+#define PRESSED_RECIPE                                                                           \
+    {.begins = 12, .misshapen = 15, .crowd = 8, .heed = 200, .own_level = 150,                   \
+     .weights = {0, 500, 320, 80, 0, 25, 15}}
+
 static const struct recipe recipes[MIXES] = {
     [REFUSED_HEAVY] = {.stale = 715, .begins = 110, .wrong_level = 60, .wrong_time = 40,
                        .misshapen = 20, .crowd = 8, .heed = 500, .own_level = 400,
                        .weights = {0, 60, 20, 12, 0, 4, 8}},
     [DONE_HEAVY] = {.misshapen = 20, .crowd = 4, .heed = 700, .own_level = 300,
                     .weights = {0, 530, 330, 130, 0, 40, 40}},
-    [PRESSED] = {.begins = 12, .misshapen = 15, .crowd = 8, .heed = 200, .own_level = 150,
-                 .weights = {0, 500, 320, 80, 0, 25, 15}},
+    [PRESSED] = PRESSED_RECIPE,
+    [PRESSED_UNDER_B] = PRESSED_RECIPE,
     // About three of a thousand requests end a transaction: it stays for some 9,000.
     [LONG_LESSONS] = {.stale = 75, .begins = 75, .misshapen = 15, .crowd = 8, .heed = 200,
                       .own_level = 300, .weights = {0, 780, 100, 3, 0, 1, 116}},
@@ -182,7 +191,7 @@ static struct request next_request(struct maker *m) {
 
 void traffic_make(enum mix mix, uint64_t seed, uint8_t *requests, size_t count) {
     struct maker m = {.state = seed, .recipe = &recipes[mix]};
-    plain_open(&m.house, &traffic_opening);
+    plain_open(&m.house, traffic_opening(mix));
     for (size_t k = 0; k < count; k++) {
         uint8_t *request = requests + k * REQUEST_BYTES, reply[REPLY_BYTES];
         request_to(request, next_request(&m));

@@ -4,7 +4,7 @@
 
 #include "wire.h"
 
-enum mix { REFUSED_HEAVY, DONE_HEAVY, PRESSED, LONG_LESSONS, MIXES };
+enum mix { REFUSED_HEAVY, DONE_HEAVY, PRESSED, LONG_LESSONS, PRESSED_UNDER_B, MIXES };
 
 extern const char *const mix_names[MIXES];   // short, for the command line and the raw figures
 
@@ -13,7 +13,7 @@ extern const char *const mix_names[MIXES];   // short, for the command line and 
 #define ITEMS 16
 #endif
 enum { TRAFFIC_ITEMS = ITEMS };
-extern const struct opening traffic_opening;
+const struct opening *traffic_opening(enum mix mix);
 extern const struct opening full_opening;   // of a house of MOST_ITEMS
 
 // Writes `count` requests. The same mix, count and seed always give the same bytes, and a smaller

@@ -11,7 +11,7 @@ int tuned_open(struct tuned_house *h, const struct opening *o) {
     memset(h, 0, sizeof *h);
     for (int l = 0; l < LEVELS; l++) h->next_ticket[l] = 1;
     int refusal = misopened(o);
-    const uint8_t *table = refusal ? chain : o->table;   // a refused opening holds the old chain
+    const uint8_t *table = refusal ? chain : o->table;   // a refused opening holds the old chain, and rule A
     for (int l = 0; l < LEVELS; l++) {
         for (int m = 0; m < LEVELS; m++) {
             h->below[l] |= (uint8_t)(dominates(table, l, m) << m);
@@ -20,6 +20,7 @@ int tuned_open(struct tuned_house *h, const struct opening *o) {
     }
     if (refusal) return refusal;
     h->count = o->levels_len;
+    h->rule = o->rule;
     memcpy(h->level, o->levels, o->levels_len);
     return 0;
 }
@@ -99,6 +100,16 @@ static inline int write_item(struct tuned_house *h, const struct request *q, int
     return DONE;
 }
 
+// `written` has READS where this level has written: what is read there from above is signalled.
+static inline void signal_readers(struct tuned_house *h, int level, const uint8_t *written) {
+    for (int l = 0; l < LEVELS; l++) {
+        if (!(h->above[level] >> l & 1)) continue;
+        for (int p = l * PLACES_PER_LEVEL; p < (l + 1) * PLACES_PER_LEVEL; p++)
+            for (int i = 0; i < MOST_ITEMS; i++)
+                h->cells[p][i] |= (h->cells[p][i] & written[i]) * IS_SIGNALLED;
+    }
+}
+
 static inline int certify(struct tuned_house *h, const struct request *q, int me,
                           struct reply *a) {
     if (is_signalled(h, me)) return SIGNALLED;
@@ -117,12 +128,7 @@ static inline int certify(struct tuned_house *h, const struct request *q, int me
         while (!(read[lowest] & written[lowest])) lowest++;
         return delayed(h, lowest, me, READS, a);
     }
-    for (int l = 0; l < LEVELS; l++) {
-        if (!(h->above[q->level] >> l & 1)) continue;
-        for (int p = l * PLACES_PER_LEVEL; p < (l + 1) * PLACES_PER_LEVEL; p++)
-            for (int i = 0; i < MOST_ITEMS; i++)
-                h->cells[p][i] |= (h->cells[p][i] & written[i]) * IS_SIGNALLED;
-    }
+    if (signals_at(h->rule, CERTIFY)) signal_readers(h, q->level, written);
     for (int i = 0; i < MOST_ITEMS; i++) h->cells[me][i] ^= written[i] * (WRITES | CERTIFIES);
     h->certified[me] = 1;
     return DONE;
@@ -144,6 +150,11 @@ static inline void end(struct tuned_house *h, int me, bool keep) {
 static inline int commit(struct tuned_house *h, int me) {
     if (is_signalled(h, me)) return SIGNALLED;
     if (!h->certified[me]) return WRONG_TIME;
+    if (signals_at(h->rule, COMMIT)) {
+        uint8_t written[MOST_ITEMS];
+        for (int i = 0; i < MOST_ITEMS; i++) written[i] = (h->cells[me][i] & CERTIFIES) / CERTIFIES * READS;
+        signal_readers(h, me / PLACES_PER_LEVEL, written);
+    }
     end(h, me, true);
     return DONE;
 }

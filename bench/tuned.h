@@ -12,6 +12,7 @@ struct tuned_house {
     uint8_t certified[PLACES];
     uint32_t next_ticket[LEVELS];
     uint8_t below[LEVELS], above[LEVELS];   // of each level a set of levels: those it dominates; those above it
+    uint8_t rule;
     uint8_t cells[PLACES][MOST_ITEMS];
 };
 

@@ -28,6 +28,7 @@ enum number {
     LEVEL_BYTE = 14,
     BLANK_SHEET = 15,
     NO_ORDER = 16,
+    NO_RULE = 28,
     NUMBERS
 };
 
@@ -109,16 +110,25 @@ static inline int misshapen(const struct request *q) {
     return 0;
 }
 
-// What a house is opened with: the level of each item, and which level dominates which (CR 6).
+// When signals are given (CR 7): at certify, or at commit.
+enum rule { RULE_A, RULE_B, RULES };
+
+// Whether this operation gives the signals in a house under the rule.
+static inline bool signals_at(uint8_t rule, enum operation operation) {
+    return operation == (rule == RULE_B ? COMMIT : CERTIFY);
+}
+
+// What a house is opened with: the level of each item, which level dominates which (CR 6), and the rule.
 struct opening {
     const uint8_t *levels;
     size_t levels_len;
     const uint8_t *table;
     size_t table_len;
+    uint8_t rule;
 };
 
 // An opening as the first arguments of a call of the library (proved.h).
-#define OPENED_WITH(o) (o)->levels, (o)->levels_len, (o)->table, (o)->table_len
+#define OPENED_WITH(o) (o)->levels, (o)->levels_len, (o)->table, (o)->table_len, (o)->rule
 
 // Document 01's order, where a larger level dominates a smaller one.
 static const uint8_t chain[TABLE_BYTES] = {1, 1, 1, 1, 0, 1, 1, 1, 0, 0, 1, 1, 0, 0, 0, 1};
@@ -145,6 +155,7 @@ static inline bool is_order(const uint8_t *table) {
 
 // 0, or the number of a refused opening.
 static inline int misopened(const struct opening *o) {
+    if (o->rule >= RULES) return NO_RULE;
     if (o->levels_len == 0 || o->levels_len > MOST_ITEMS) return ITEM_COUNT;
     if (o->table_len != TABLE_BYTES) return ITEM_COUNT;
     for (size_t i = 0; i < o->levels_len; i++)

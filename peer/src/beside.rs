@@ -4,6 +4,7 @@
 use crate::bytes::input_of;
 use crate::compare::{answer_of, refused_opening};
 use crate::opening::split_header;
+use crate::rule::Rule;
 use crate::run::opened;
 use crate::stop::Stop;
 use crate::strike::{Struck, STRUCK, WHOLE};
@@ -95,9 +96,9 @@ pub fn beside(
     out: &mut impl Write,
 ) -> Result<(), Stop> {
     let struck = Struck::of(input, k);
-    let left = answer_of(command, WHOLE, input)?;
-    let right = answer_of(command, STRUCK, &struck.input)?;
-    if let Some(house) = opened(split_header(input).0) {
+    let left = answer_of(command, WHOLE, input, Rule::A)?;
+    let right = answer_of(command, STRUCK, &struck.input, Rule::A)?;
+    if let Some(house) = opened(split_header(input).0, Rule::A) {
         writeln!(out, "in {}", words::house(&house))?;
     }
     let without = format!("the {STRUCK}: without what level {k} does not dominate");
@@ -171,7 +172,7 @@ mod tests {
             }
         }
         assert_eq!(split_header(&input).1, requests);
-        assert_eq!(output_for(&input, BY_THE_RULES), replies);
+        assert_eq!(output_for(&input, Rule::A, BY_THE_RULES), replies);
         assert_eq!(Struck::of(&input, DAY_LEVEL).stays, stays);
     }
 }

@@ -1,5 +1,6 @@
 //! Words to bytes: the lines of a talk as the input of a desk.
 
+use crate::rule::Rule;
 use crate::talk::{parse_line, Line, OPEN_FIRST};
 use crate::wire::Request;
 
@@ -18,6 +19,9 @@ pub fn input_of(lines: &str) -> Result<Vec<u8>, String> {
 
 fn bytes_of(line: &str, is_first: bool) -> Result<Vec<u8>, String> {
     match (parse_line(line)?, is_first) {
+        (Line::Open(opening), true) if opening.rule != Rule::A.number() => {
+            Err("an input tells no rule, and takes A".to_string())
+        }
         (Line::Open(opening), true) => Ok(opening.header()),
         (Line::Ask(requests), false) => {
             Ok(requests.into_iter().flat_map(Request::to_bytes).collect())
@@ -50,6 +54,7 @@ mod tests {
             ("open 0\nbegin\n", "line 2: a level is missing"),
             ("open 0\nshow\n", "line 2: 'show' is not known here"),
             ("open x", "line 1: 'x' is not a level"),
+            ("open 0 rule B", "line 1: an input tells no rule, and takes A"),
         ];
         for (lines, wanted) in cases {
             let message = input_of(lines).expect_err(lines);

@@ -5,6 +5,7 @@ use crate::generator;
 use crate::opening::split_header;
 use crate::program::Program;
 use crate::progress::each_seed;
+use crate::rule::Rule;
 use crate::run::{answer_whole, opened, output_for, replies_due, BY_THE_RULES};
 use crate::stop::Stop;
 use crate::wire::{hex, Reply, Request, REPLY_BYTES, REQUEST_BYTES};
@@ -15,25 +16,65 @@ use std::time::Duration;
 /// How long a program may go without writing anything or ending.
 const PATIENCE: Duration = Duration::from_secs(60);
 
+/// Which rules a program can be told (CR 7).
+#[derive(Clone, Copy, PartialEq, Eq)]
+pub enum Rules {
+    /// None: it takes rule A, as the program does.
+    OnlyA,
+    /// Either, as its last word.
+    Either,
+}
+
+impl Rules {
+    /// The command that serves a house under the rule.
+    pub fn command(self, command: &str, rule: Rule) -> String {
+        match self {
+            Rules::OnlyA => command.to_string(),
+            Rules::Either => format!("{command} {rule}"),
+        }
+    }
+}
+
 /// Which inputs are compared.
 pub enum Inputs {
     /// `gen`'s inputs of this many requests.
-    Generated { requests: usize },
+    Generated { requests: usize, rules: Rules },
     /// Random byte strings.
     Random,
 }
 
 impl Inputs {
+    fn rules(&self) -> Rules {
+        match self {
+            Inputs::Generated { rules, .. } => *rules,
+            Inputs::Random => Rules::OnlyA,
+        }
+    }
+
+    pub fn rule(&self, seed: u64) -> Rule {
+        match self.rules() {
+            Rules::OnlyA => Rule::A,
+            Rules::Either => generator::rule_of(seed),
+        }
+    }
+
     pub fn bytes(&self, seed: u64) -> Vec<u8> {
         match self {
-            Inputs::Generated { requests } => generator::input(seed, *requests),
+            Inputs::Generated { requests, .. } => {
+                generator::input(seed, self.rule(seed), *requests)
+            }
             Inputs::Random => generator::random_bytes(seed),
         }
     }
 
     pub fn how_to_make(&self, seed: u64) -> String {
         match self {
-            Inputs::Generated { requests } => format!("peer gen {seed} {requests}"),
+            Inputs::Generated { requests, rules: Rules::OnlyA } => {
+                format!("peer gen {seed} {requests}")
+            }
+            Inputs::Generated { requests, rules: Rules::Either } => {
+                format!("peer gen {seed} {requests} {}", self.rule(seed))
+            }
             Inputs::Random => format!("peer gen --random {seed}"),
         }
     }
@@ -46,22 +87,29 @@ pub fn compare(
     count: u64,
     out: &mut impl Write,
 ) -> Result<(), Stop> {
-    let (mut requests, mut refused) = (0, 0);
+    let (mut requests, mut refused, mut under_b) = (0, 0, 0);
     each_seed("compared", from, count, |seed| {
-        let input = inputs.bytes(seed);
-        let ours = output_for(&input, BY_THE_RULES);
-        let explained = |theirs: &[u8]| explain(&input, &ours, theirs);
-        compare_one(command, &input, ours.len(), explained)
+        let (rule, input) = (inputs.rule(seed), inputs.bytes(seed));
+        let command = inputs.rules().command(command, rule);
+        let ours = output_for(&input, rule, BY_THE_RULES);
+        let explained = |theirs: &[u8]| explain(&input, rule, &ours, theirs);
+        compare_one(&command, &input, ours.len(), explained)
             .map_err(|stop| stop.on_input_of(&inputs.how_to_make(seed)))?;
-        match opened(split_header(&input).0) {
+        match opened(split_header(&input).0, rule) {
             None => refused += 1,
             Some(_) => requests += ours.len() / REPLY_BYTES,
         }
+        under_b += u64::from(rule == Rule::B);
         Ok(())
     })?;
+    let rules = match inputs.rules() {
+        Rules::OnlyA => String::new(),
+        Rules::Either => format!(", {under_b} of them under rule B"),
+    };
     writeln!(
         out,
-        "compared {count} inputs, {requests} requests, {refused} refused openings: no difference"
+        "compared {count} inputs{rules}, {requests} requests, {refused} refused openings: no \
+         difference"
     )?;
     Ok(())
 }
@@ -86,10 +134,16 @@ pub fn compare_one(
 }
 
 /// What the program answers to an input, or the peer's own desk where there is none. It has to be
-/// as long as it is due to be; whether it is right is not looked at. `list` names the input.
-pub fn answer_of(command: Option<&str>, list: &str, input: &[u8]) -> Result<Vec<u8>, Stop> {
+/// as long as it is due to be; whether it is right is not looked at. `list` names the input, `rule`
+/// is that of its house.
+pub fn answer_of(
+    command: Option<&str>,
+    list: &str,
+    input: &[u8],
+    rule: Rule,
+) -> Result<Vec<u8>, Stop> {
     let Some(command) = command else {
-        return Ok(output_for(input, BY_THE_RULES));
+        return Ok(output_for(input, rule, BY_THE_RULES));
     };
     let due = replies_due(input) * REPLY_BYTES;
     let explained = |output: &[u8]| match output.len() {
@@ -108,11 +162,11 @@ pub fn first_difference(one: &[u8], other: &[u8]) -> Option<usize> {
 }
 
 /// The first difference in words, if there is one.
-pub fn explain(input: &[u8], ours: &[u8], theirs: &[u8]) -> Option<String> {
+pub fn explain(input: &[u8], rule: Rule, ours: &[u8], theirs: &[u8]) -> Option<String> {
     let same = first_difference(ours, theirs)?;
     let index = same / REPLY_BYTES;
     let (ours, theirs) = (reply_at(ours, index), reply_at(theirs, index));
-    let replies = explain_replies(input, index, ("peer", ours), ("program", theirs));
+    let replies = explain_replies(input, rule, index, ("peer", ours), ("program", theirs));
     Some(format!("the outputs differ at byte {same}\n{replies}"))
 }
 
@@ -120,9 +174,15 @@ pub fn explain(input: &[u8], ours: &[u8], theirs: &[u8]) -> Option<String> {
 pub type Given<'a> = (&'a str, &'a [u8]);
 
 /// Two replies to the request of this index in words, and the house it was asked in.
-pub fn explain_replies(input: &[u8], index: usize, left: Given, right: Given) -> String {
+pub fn explain_replies(
+    input: &[u8],
+    rule: Rule,
+    index: usize,
+    left: Given,
+    right: Given,
+) -> String {
     let (header, requests) = split_header(input);
-    let house = opened(header).ok_or_else(|| refused_opening(header));
+    let house = opened(header, rule).ok_or_else(|| refused_opening(header));
     explain_in(house, requests, index, left, right)
 }
 
@@ -207,41 +267,53 @@ mod tests {
     use crate::slips::SLIPS;
     use crate::talk::{DAY_INPUT, DAY_OUTPUT};
 
+    fn explain_day(theirs: &[u8]) -> Option<String> {
+        explain(&DAY_INPUT, Rule::A, &DAY_OUTPUT, theirs)
+    }
+
     #[test]
     fn equal_outputs_need_no_words() {
-        assert_eq!(explain(&DAY_INPUT, &DAY_OUTPUT, &DAY_OUTPUT), None);
+        assert_eq!(explain_day(&DAY_OUTPUT), None);
     }
 
     #[test]
     fn a_wrong_reply_is_put_in_words() {
         let mut wrong = DAY_OUTPUT;
         wrong[44] = 9;
-        let text = explain(&DAY_INPUT, &DAY_OUTPUT, &wrong).expect("a difference");
+        let text = explain_day(&wrong).expect("a difference");
         assert!(text.contains("request 3 (the first is 1): level 0 #1 reads item 0"), "{text}");
         assert!(text.contains("they differ in version (peer: 1, program: 9)"), "{text}");
     }
 
     #[test]
     fn missing_and_spare_bytes_are_put_in_words() {
-        let text = explain(&DAY_INPUT, &DAY_OUTPUT, &DAY_OUTPUT[..20]).expect("a difference");
+        let text = explain_day(&DAY_OUTPUT[..20]).expect("a difference");
         assert!(text.contains("only 4 bytes of a reply"), "{text}");
         let more = [&DAY_OUTPUT[..], &[1]].concat();
-        let text = explain(&DAY_INPUT, &DAY_OUTPUT, &more).expect("a difference");
+        let text = explain_day(&more).expect("a difference");
         assert!(text.contains("after the last whole request (3 were answered)"), "{text}");
-        let text = explain(&[0], &output_for(&[0], BY_THE_RULES), &[]).expect("a difference");
+        let due = output_for(&[0], Rule::A, BY_THE_RULES);
+        let text = explain(&[0], Rule::A, &due, &[]).expect("a difference");
         assert!(text.contains("the opening is refused: 00"), "{text}");
     }
 
     #[test]
     fn each_slip_of_the_trade_shows_in_the_bytes() {
         // Slips of the opening need no requests, but many openings.
-        let long = (0..60).map(|seed| generator::input(seed, 400));
-        let short = (0..400).map(|seed| generator::input(seed, 1));
-        let outputs = |input: Vec<u8>| (output_for(&input, BY_THE_RULES), input);
-        let inputs: Vec<(Vec<u8>, Vec<u8>)> = long.chain(short).map(outputs).collect();
+        let seeds = (0..120).map(|seed| (seed, 400)).chain((0..400).map(|seed| (seed, 1)));
+        let cases: Vec<(Rule, Vec<u8>, Vec<u8>)> = seeds
+            .map(|(seed, requests)| {
+                let rule = generator::rule_of(seed);
+                let input = generator::input(seed, rule, requests);
+                let due = output_for(&input, rule, BY_THE_RULES);
+                (rule, input, due)
+            })
+            .collect();
         for (name, conduct) in SLIPS {
-            let differs = |(due, input): &&(Vec<u8>, Vec<u8>)| *due != output_for(input, conduct);
-            let found = inputs.iter().filter(differs).count();
+            let differs = |(rule, input, due): &&(Rule, Vec<u8>, Vec<u8>)| {
+                *due != output_for(input, *rule, conduct)
+            };
+            let found = cases.iter().filter(differs).count();
             assert!(found >= 4, "a desk that {name} was found on {found} inputs only");
         }
     }

@@ -6,6 +6,7 @@ use crate::generator::Generator;
 use crate::opening::{split_header, Opening};
 use crate::order::{Order, TABLE_BYTES};
 use crate::program::Program;
+use crate::rule::Rule;
 use crate::run::opened;
 use crate::stop::Stop;
 use crate::talk::{DAY_INPUT, DAY_OUTPUT};
@@ -44,7 +45,8 @@ struct Client {
 impl Client {
     /// Opens the house, with the header in pieces of this many bytes.
     fn open(command: &str, header: &[u8], piece: usize) -> Result<Client, Stop> {
-        let desk = opened(header).ok_or_else(|| Stop::Cannot("no house opens".to_string()))?;
+        let desk =
+            opened(header, Rule::A).ok_or_else(|| Stop::Cannot("no house opens".to_string()))?;
         let mut client = Client { program: Program::start(command)?, desk, asked: 0 };
         client.send_in_pieces(header, piece)?;
         client.check_quiet("a header alone")?;
@@ -123,7 +125,7 @@ fn worked_day(command: &str) -> Result<u64, Stop> {
 fn in_pieces(command: &str) -> Result<u64, Stop> {
     let mut asked = 0;
     for piece in [1, 2, 5, 11] {
-        let mut generator = Generator::new(piece as u64);
+        let mut generator = Generator::new(piece as u64, Rule::A);
         let mut client = Client::open(command, &generator.desk().opening().header(), piece)?;
         for _ in 0..6 {
             client.ask_in_pieces(&generator.next_request(), piece)?;
@@ -177,7 +179,7 @@ fn interleaved(command: &str) -> Result<u64, Stop> {
 fn generated(command: &str) -> Result<u64, Stop> {
     let mut asked = 0;
     for seed in 1..=4 {
-        let mut generator = Generator::new(seed);
+        let mut generator = Generator::new(seed, Rule::A);
         let mut client = Client::open(command, &generator.desk().opening().header(), 65)?;
         for index in 0..300 {
             let piece = if index % 40 == 0 { 7 } else { REQUEST_BYTES };
@@ -190,7 +192,7 @@ fn generated(command: &str) -> Result<u64, Stop> {
 
 /// Whole requests are answered though the one after them is unfinished.
 fn in_bursts(command: &str) -> Result<u64, Stop> {
-    let mut generator = Generator::new(5);
+    let mut generator = Generator::new(5, Rule::A);
     let mut client = Client::open(command, &generator.desk().opening().header(), 65)?;
     for whole in 1..=20 {
         let requests: Vec<Request> = (0..=whole).map(|_| generator.next_request()).collect();

@@ -1,19 +1,24 @@
 //! Which replies the generated inputs meet: all that the rules let a run reach must be there.
 
 mod delays;
+mod moment;
 mod openings;
 mod orders;
+mod rules;
 
 use crate::desk::{Desk, Place, Refusal, Standing, PLACES_PER_LEVEL};
 use crate::generator;
 use crate::opening::split_header;
 use crate::progress::each_seed;
+use crate::rule::Rule;
 use crate::run::{opened, output_for, BY_THE_RULES};
 use crate::stop::Stop;
 use crate::wire::{Operation, Reply, Request, REQUEST_BYTES};
 use delays::{Delay, Delays};
+use moment::Moment;
 use openings::Openings;
-use orders::{Moment, Orders};
+use orders::Orders;
+use rules::Signals;
 use std::io::{self, Write};
 
 /// Rows: the operations, then all numbers above 6 together.
@@ -59,8 +64,9 @@ pub const ENOUGH: u64 = 100;
 /// Standings a requester can be in; every operation that names it should meet each.
 const STANDINGS: [&str; 4] = ["active", "active, signalled", "certified", "certified, signalled"];
 
-#[derive(Default)]
+/// What the inputs for houses under one rule meet.
 struct Counts {
+    rule: Rule,
     replies: [[u64; NUMBERS.len()]; ROWS],
     /// By operation and standing of the transaction that the request names.
     standings: [[u64; STANDINGS.len()]; ROWS],
@@ -73,15 +79,32 @@ struct Counts {
     delays: Delays,
     openings: Openings,
     orders: Orders,
+    signals: Signals,
     /// Replies that no reading of the rules allows.
     strange: u64,
 }
 
 impl Counts {
+    fn new(rule: Rule) -> Counts {
+        Counts {
+            rule,
+            replies: Default::default(),
+            standings: Default::default(),
+            passed: Default::default(),
+            blank: Default::default(),
+            delays: Delays::default(),
+            openings: Openings::default(),
+            orders: Orders::default(),
+            signals: Signals::new(rule),
+            strange: 0,
+        }
+    }
+
     fn note_input(&mut self, input: &[u8]) {
         let (header, mut requests) = split_header(input);
-        let Some(mut desk) = opened(header) else {
-            self.openings.note_refused(header, &output_for(header, BY_THE_RULES));
+        let Some(mut desk) = opened(header, self.rule) else {
+            let refusal = output_for(header, self.rule, BY_THE_RULES);
+            self.openings.note_refused(header, &refusal);
             return;
         };
         self.openings.note_opened(desk.order);
@@ -91,7 +114,9 @@ impl Counts {
             self.note_blank(&desk, &request);
             let before = desk.clone();
             let reply = desk.answer(&request);
-            self.orders.note(&Moment { before: &before, after: &desk, request: &request, reply });
+            let moment = Moment { before: &before, after: &desk, request: &request, reply };
+            self.orders.note(&moment);
+            self.signals.note(&moment);
             self.note_reply(&desk, &request, &reply);
             requests = rest;
         }
@@ -157,11 +182,12 @@ impl Counts {
         }
         faults.extend(self.delays.faults());
         faults.extend(self.orders.faults());
+        faults.extend(self.signals.faults());
         faults.extend(self.openings.faults());
         if self.strange > 0 {
             faults.push(format!("{} replies are such as nobody may give", self.strange));
         }
-        faults
+        faults.iter().map(|fault| format!("under rule {}: {fault}", self.rule)).collect()
     }
 
     /// The writes of 0 by every answer that a write may get instead.
@@ -173,6 +199,7 @@ impl Counts {
     }
 
     fn print(&self, out: &mut impl Write) -> io::Result<()> {
+        writeln!(out, "UNDER RULE {}", self.rule)?;
         self.openings.print(out)?;
         writeln!(
             out,
@@ -202,6 +229,7 @@ impl Counts {
         )?;
         self.delays.print(out)?;
         self.orders.print(out)?;
+        self.signals.print(out)?;
         writeln!(out, "\nrequests by operation and standing of the transaction named")?;
         for operation in Operation::ALL.into_iter().filter(|operation| operation.uses_ticket()) {
             let counts = self.standings[usize::from(operation.number())];
@@ -235,14 +263,19 @@ fn count_or_mark(row: usize, number: u8, count: u64) -> String {
 }
 
 pub fn cover(seeds: u64, requests: usize, out: &mut impl Write) -> Result<(), Stop> {
-    let mut counts = Counts::default();
+    let mut counts = Rule::ALL.map(Counts::new);
     each_seed("counted", 0, seeds, |seed| {
-        counts.note_input(&generator::input(seed, requests));
+        let rule = generator::rule_of(seed);
+        let input = generator::input(seed, rule, requests);
+        counts[usize::from(rule.number())].note_input(&input);
         Ok(())
     })?;
-    counts.print(out)?;
-    check_faults(&counts.faults())?;
-    writeln!(out, "\ncovered: every reply that a run can reach was met")?;
+    for counts in &counts {
+        counts.print(out)?;
+        writeln!(out)?;
+    }
+    check_faults(&counts.iter().flat_map(Counts::faults).collect::<Vec<_>>())?;
+    writeln!(out, "covered: every reply that a run can reach was met, under either rule")?;
     Ok(())
 }
 
@@ -288,7 +321,7 @@ mod tests {
 
     #[test]
     fn enough_inputs_meet_everything() {
-        assert!(cover(300, 200, &mut io::sink()).is_ok());
+        assert!(cover(600, 200, &mut io::sink()).is_ok());
     }
 
     #[test]
@@ -300,7 +333,8 @@ mod tests {
             "begin was never answered 11",
             "no house was opened with the order 0<1 0<2 1<3 2<3",
             "no opening was refused 16: three levels that are not transitive alone",
-            "never met: a done certify that signals level 0 above level 3",
+            "under rule A: never met: signals of level 3 to level 0 above it",
+            "under rule B: never met: a done commit that signals several",
         ];
         for words in wanted {
             assert!(faults.contains(words), "{words}: {faults}");

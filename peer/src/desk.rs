@@ -1,8 +1,9 @@
 //! The desk: the house of document 01 and its rules, with the change requests that have landed
-//! (CR 1, CR 5, CR 6), written as plainly as they stand there.
+//! (CR 1, CR 5, CR 6, CR 7), written as plainly as they stand there.
 
 use crate::opening::Opening;
 use crate::order::{Order, Table};
+use crate::rule::Rule;
 use crate::wire::{Operation, Reply, Request};
 use std::collections::BTreeMap;
 
@@ -32,6 +33,7 @@ pub enum Refusal {
     LevelByte = 14,
     BlankSheet = 15,
     NoOrder = 16,
+    NoRule = 28,
 }
 
 impl Refusal {
@@ -98,6 +100,11 @@ impl Place {
         self.items_where(|cell| cell.write)
     }
 
+    /// What it has written, certified or not.
+    pub fn changed(&self) -> Vec<usize> {
+        self.items_where(|cell| cell.write || cell.certify)
+    }
+
     pub fn signalled(&self) -> Vec<usize> {
         self.items_where(|cell| cell.signalled)
     }
@@ -115,12 +122,15 @@ pub struct Desk {
     pub places: Vec<Place>,
     pub next_ticket: [Option<u32>; LEVELS as usize],
     pub order: Order,
+    pub rule: Rule,
 }
 
 impl Desk {
-    /// A table that is not 16 bytes long gives 13, as a wrong count of items does.
+    /// A table that is not 16 bytes long gives 13, as a wrong count of items does. A rule that is
+    /// none comes first (CR 14 names its number).
     pub fn open(opening: &Opening) -> Result<Desk, Refusal> {
-        let Opening { levels, table } = opening;
+        let Opening { levels, table, rule } = opening;
+        let rule = Rule::from_number(*rule).ok_or(Refusal::NoRule)?;
         let table = Table::try_from(&table[..]).map_err(|_| Refusal::ItemCount)?;
         if levels.is_empty() || levels.len() > MOST_ITEMS {
             return Err(Refusal::ItemCount);
@@ -129,15 +139,15 @@ impl Desk {
             return Err(Refusal::LevelByte);
         }
         let order = Order::of(&table).ok_or(Refusal::NoOrder)?;
-        Ok(Desk::fresh(levels, order))
+        Ok(Desk::fresh(levels, order, rule))
     }
 
-    /// What a refused opening yields: no items, and the old chain.
+    /// What a refused opening yields: no items, the old chain, and rule A.
     pub fn refused() -> Desk {
-        Desk::fresh(&[], Order::CHAIN)
+        Desk::fresh(&[], Order::CHAIN, Rule::A)
     }
 
-    fn fresh(levels: &[u8], order: Order) -> Desk {
+    fn fresh(levels: &[u8], order: Order, rule: Rule) -> Desk {
         let fresh = |&level: &u8| Item { level, value: 0, version: 0, pending: 0 };
         let places_of = |level| vec![Place::free(level); PLACES_PER_LEVEL];
         Desk {
@@ -145,6 +155,7 @@ impl Desk {
             places: (0..LEVELS).flat_map(places_of).collect(),
             next_ticket: [Some(1); LEVELS as usize],
             order,
+            rule,
         }
     }
 
@@ -246,16 +257,11 @@ impl Desk {
         if let Some(holder) = self.holder(me, request) {
             return Ok(delayed_by(holder, request));
         }
+        self.give_signals(me, Operation::Certify);
         for item in self.places[me].written() {
             let cell = self.places[me].cell_mut(item);
             cell.write = false;
             cell.certify = true;
-            let is_above = |place: &&mut Place| self.order.is_above(place.level, request.level);
-            for above in self.places.iter_mut().filter(is_above) {
-                if above.cell(item).read {
-                    above.cell_mut(item).signalled = true;
-                }
-            }
         }
         self.places[me].standing = Standing::Certified;
         Ok(Reply::repeating(request))
@@ -265,7 +271,8 @@ impl Desk {
         let me = self.find(request.level, request.ticket)?;
         self.check_unsignalled(me)?;
         self.check_standing(me, Standing::Certified)?;
-        for number in self.places[me].items_where(|cell| cell.certify) {
+        self.give_signals(me, Operation::Commit);
+        for number in self.places[me].changed() {
             let item = &mut self.items[number];
             item.value = item.pending;
             item.version = item.version.saturating_add(1);
@@ -277,7 +284,7 @@ impl Desk {
 
     fn abort(&mut self, request: &Request) -> Result<Reply, Refusal> {
         let me = self.find(request.level, request.ticket)?;
-        for number in self.places[me].items_where(|cell| cell.write || cell.certify) {
+        for number in self.places[me].changed() {
             self.items[number].pending = 0;
         }
         self.places[me] = Place::free(request.level);
@@ -295,6 +302,24 @@ impl Desk {
         })
     }
 
+    /// The signals of a done request of the transaction at place `me`, if its operation is the one
+    /// that gives them in this house.
+    fn give_signals(&mut self, me: usize, operation: Operation) {
+        if self.rule.signals_at() == operation {
+            self.signal_readers(self.places[me].level, &self.places[me].changed());
+        }
+    }
+
+    /// Marks each read lock on these items that is held from above the level.
+    pub fn signal_readers(&mut self, level: u8, items: &[usize]) {
+        let is_above = |place: &&mut Place| self.order.is_above(place.level, level);
+        for above in self.places.iter_mut().filter(is_above) {
+            for (item, cell) in &mut above.cells {
+                cell.signalled |= cell.read && items.contains(item);
+            }
+        }
+    }
+
     /// The place of the open transaction with this name.
     pub fn find(&self, level: u8, ticket: u32) -> Result<usize, Refusal> {
         self.places
@@ -303,10 +328,10 @@ impl Desk {
             .ok_or(Refusal::NoTransaction)
     }
 
-    /// The items that the requester has written, if it is open.
-    pub fn written_by(&self, request: &Request) -> Vec<usize> {
+    /// The items that the requester has written, certified or not, if it is open.
+    pub fn changed_by(&self, request: &Request) -> Vec<usize> {
         let place = self.find(request.level, request.ticket);
-        place.map(|place| self.places[place].written()).unwrap_or_default()
+        place.map(|place| self.places[place].changed()).unwrap_or_default()
     }
 
     /// The level of each item.
@@ -316,7 +341,7 @@ impl Desk {
 
     /// What opens a house like this one.
     pub fn opening(&self) -> Opening {
-        Opening::new(&self.levels(), &self.order.table())
+        Opening::new(&self.levels(), &self.order.table()).under(self.rule)
     }
 
     /// The locks in the way of what the transaction at place `me` asks for, each by its item and

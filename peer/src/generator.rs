@@ -3,13 +3,14 @@
 
 mod openings;
 
-use crate::desk::{Desk, Item, Place, Standing, LEVELS, MOST_ITEMS};
+use crate::desk::{Cell, Desk, Item, Place, Standing, LEVELS, MOST_ITEMS};
 use crate::opening::Opening;
 use crate::order::{levels, Order};
 use crate::rng::Rng;
+use crate::rule::Rule;
 use crate::wire::{Operation, Request, REQUEST_BYTES};
-pub use openings::spoil;
 use openings::{any_order, order_of};
+pub use openings::{rule_of, spoil};
 
 /// What most requests of a stretch are about.
 struct Mood {
@@ -47,6 +48,10 @@ const WHEN_SIGNALLED: [usize; 7] = [0, 2, 2, 2, 3, 1, 4];
 /// A certified one mostly commits, and now and then forgets that it is certified.
 const WHEN_CERTIFIED: [usize; 7] = [0, 1, 1, 1, 5, 1, 1];
 
+/// Under rule B a signal takes a commit more than under A, and the moods alone give few. So one request
+/// in this many is a step towards one.
+const REQUESTS_PER_STEP_TO_SIGNAL: usize = 8;
+
 /// How many tickets of ended transactions may come back in late requests.
 const OLD_TICKETS_KEPT: usize = 40;
 
@@ -65,10 +70,10 @@ pub struct Generator {
 
 impl Generator {
     /// A generator with a house that is opened, whatever the seed.
-    pub fn new(seed: u64) -> Generator {
+    pub fn new(seed: u64, rule: Rule) -> Generator {
         let mut rng = Rng::new(seed);
         let order = order_of(seed, &mut rng);
-        let desk = proper_house(&mut rng, order);
+        let desk = proper_house(&mut rng, order, rule);
         Generator::with_house(rng, desk)
     }
 
@@ -135,6 +140,11 @@ impl Generator {
     }
 
     fn sensible_request(&mut self) -> Request {
+        if self.desk.rule == Rule::B && self.rng.one_in(REQUESTS_PER_STEP_TO_SIGNAL) {
+            if let Some(request) = self.step_to_signal() {
+                return request;
+            }
+        }
         let begins = self.rng.below(100) < self.mood.begins;
         let Some(place) = self.place_at_work().filter(|_| !begins) else {
             let level = match self.rng.below(16) {
@@ -155,6 +165,36 @@ impl Generator {
             request.value = self.value();
         }
         request
+    }
+
+    /// The next of write, certify and commit by somebody at an item's level, where one above reads it.
+    fn step_to_signal(&mut self) -> Option<Request> {
+        let Desk { items, places, order, .. } = &self.desk;
+        let is_read_above = |item: &usize| {
+            let is_above = |place: &&Place| order.is_above(place.level, items[*item].level);
+            let mut above = places.iter().filter(is_above);
+            above.any(|place| place.cell(*item).read && !place.cell(*item).signalled)
+        };
+        let read: Vec<usize> = (0..items.len()).filter(is_read_above).collect();
+        let item = self.rng.pick(&read)?;
+        let level = items[item].level;
+        let at_level = places.iter().filter(|place| place.level == level && place.is_taken());
+        let names: Vec<(u32, Cell)> = at_level.map(|p| (p.ticket, p.cell(item))).collect();
+        let writer = names.iter().find(|(_, cell)| cell.write || cell.certify).copied();
+        let (ticket, cell) = writer.or_else(|| self.rng.pick(&names))?;
+        let operation = match cell {
+            Cell { certify: true, .. } => Operation::Commit,
+            // A commit that is refused signals nobody.
+            Cell { write: true, .. } if self.rng.one_in(3) => Operation::Commit,
+            Cell { write: true, .. } => Operation::Certify,
+            _ => Operation::Write,
+        };
+        let mut request =
+            Request { operation: operation.number(), level, ticket, ..Request::default() };
+        if operation == Operation::Write {
+            (request.item, request.value) = (item as u16, self.value());
+        }
+        Some(request)
     }
 
     /// The place of one of the crowd, if anybody is there.
@@ -299,20 +339,22 @@ fn proper_levels(rng: &mut Rng) -> Vec<u8> {
     (0..count).map(|_| (lowest + rng.below(span)) as u8).collect()
 }
 
-fn proper_house(rng: &mut Rng, order: Order) -> Desk {
+fn proper_house(rng: &mut Rng, order: Order, rule: Rule) -> Desk {
     loop {
-        if let Ok(desk) = Desk::open(&Opening::new(&proper_levels(rng), &order.table())) {
+        let opening = Opening::new(&proper_levels(rng), &order.table()).under(rule);
+        if let Ok(desk) = Desk::open(&opening) {
             return desk;
         }
     }
 }
 
-/// The whole input of a seed: a header and `requests` requests, sometimes with an unfinished one
-/// at the end. Requests follow a refused opening too, to see that nobody answers them.
-pub fn input(seed: u64, requests: usize) -> Vec<u8> {
+/// The whole input of a seed, for a house under the rule: a header and `requests` requests, sometimes
+/// with an unfinished one at the end. Requests follow a refused opening too, to see that nobody
+/// answers them.
+pub fn input(seed: u64, rule: Rule, requests: usize) -> Vec<u8> {
     let mut rng = Rng::new(seed);
     let order = order_of(seed, &mut rng);
-    let desk = proper_house(&mut rng, order);
+    let desk = proper_house(&mut rng, order, rule);
     let mut bytes = desk.opening().header();
     if spoil(seed, &mut rng, &mut bytes) {
         return bytes;
@@ -339,7 +381,7 @@ pub fn random_bytes(seed: u64) -> Vec<u8> {
     let mut bytes = Vec::new();
     if rng.one_in(2) {
         let order = any_order(&mut rng);
-        bytes = proper_house(&mut rng, order).opening().header();
+        bytes = proper_house(&mut rng, order, Rule::A).opening().header();
     }
     let is_small = rng.one_in(2);
     let small = |rng: &mut Rng| rng.below(4) as u8 * rng.below(3) as u8;
@@ -354,12 +396,15 @@ mod tests {
     #[test]
     fn a_seed_always_means_the_same_input() {
         for seed in [0, 1, 17, u64::MAX] {
-            assert_eq!(input(seed, 100), input(seed, 100));
+            for rule in Rule::ALL {
+                assert_eq!(input(seed, rule, 100), input(seed, rule, 100));
+            }
             assert_eq!(random_bytes(seed), random_bytes(seed));
         }
-        assert_ne!(input(1, 100), input(2, 100));
+        assert_ne!(input(1, Rule::A, 100), input(2, Rule::A, 100));
+        assert_ne!(input(17, Rule::A, 500), input(17, Rule::B, 500));
         // Written down once, so that a changed generator is noticed.
-        assert_eq!(fingerprint(&input(17, 500)), 671922192592430017);
+        assert_eq!(fingerprint(&input(17, Rule::A, 500)), 671922192592430017);
     }
 
     fn fingerprint(bytes: &[u8]) -> u64 {

@@ -17,9 +17,16 @@ const ECHO: &str = "> ";
 pub fn play(file: &str, command: Option<&str>, out: &mut impl Write) -> Result<(), Stop> {
     let text = read(file)?;
     let guide = parse(file, &text)?;
-    let requests = guide.play(command).map_err(|stop| stop.at(file))?;
+    let (requests, under_b) = guide.play(command).map_err(|stop| stop.at(file))?;
     let recipes = guide.recipes.len();
-    writeln!(out, "played {recipes} recipes, {requests} requests: every byte as the guide says")?;
+    let own = match under_b {
+        0 => String::new(),
+        _ => format!(", {under_b} of them under rule B, where the peer's own desk answers"),
+    };
+    writeln!(
+        out,
+        "played {recipes} recipes, {requests} requests{own}: every byte as the guide says"
+    )?;
     Ok(())
 }
 
@@ -66,16 +73,17 @@ impl<'a> Guide<'a> {
         Ok(Guide { lines, recipes })
     }
 
-    /// The number of requests that were played.
-    fn play(&self, command: Option<&str>) -> Result<u64, Stop> {
-        let mut requests = 0;
+    /// The number of requests that were played, and of those under rule B.
+    fn play(&self, command: Option<&str>) -> Result<(u64, u64), Stop> {
+        let (mut requests, mut under_b) = (0, 0);
         for recipe in &self.recipes {
             let played = talk::play(command, &recipe.words)?;
             recipe.compare(&self.lines[recipe.inside.clone()], &played)?;
             recipe.check_agreed(&played)?;
             requests += played.requests;
+            under_b += played.under_b;
         }
-        Ok(requests)
+        Ok((requests, under_b))
     }
 
     fn rewritten(&self, command: Option<&str>) -> Result<String, Stop> {
@@ -209,7 +217,10 @@ mod tests {
 
     #[test]
     fn a_good_guide_passes_and_is_written_as_it_is() {
-        assert_eq!(guide(GUIDE).play(None).expect("a good guide"), 2);
+        assert_eq!(guide(GUIDE).play(None).expect("a good guide"), (2, 0));
+        let under_b = "```talk\n> open 0 rule B\n> begin 0\n```\n";
+        let written = guide(under_b).rewritten(None).expect("a recipe under rule B");
+        assert_eq!(guide(&written).play(None).expect("a good guide"), (1, 1));
         assert_eq!(guide(GUIDE).rewritten(None).expect("a good guide"), GUIDE);
     }
 

@@ -16,6 +16,7 @@ mod program;
 mod progress;
 mod quiet;
 mod rng;
+mod rule;
 mod run;
 mod serial;
 mod slips;
@@ -25,7 +26,8 @@ mod talk;
 mod wire;
 mod words;
 
-use compare::Inputs;
+use compare::{Inputs, Rules};
+use rule::Rule;
 use run::{Conduct, BY_THE_RULES};
 use std::io::{self, Read, Write};
 use std::process::ExitCode;
@@ -39,13 +41,17 @@ The peer: a second desk, written from document 01 and the change requests alone.
 
 usage: peer COMMAND
 
-  run                            the desk: standard input to standard output
-  gen SEED N                     write the input of a seed: a header and N requests
+  run [RULE]                     the desk: standard input to standard output
+  gen SEED N [RULE]              write the input of a seed: a header, which does not tell the
+                                 rule, and N requests made for a house under it
   gen --random SEED              write the random byte string of a seed
   gen --map SEED                 write the case of a map of a seed (see bench/maps.c)
   compare PROGRAM SEEDS N [--from S]
                                  run PROGRAM on that many inputs of gen; its bytes must be
                                  the peer's
+  compare --rules PROGRAM SEEDS N [--from S]
+                                 the same under either rule, half of the inputs under B;
+                                 PROGRAM is given the rule as one word more
   compare --random PROGRAM COUNT [--from S]
                                  the same with random byte strings
   maps PROGRAM COUNT [--from S]  run PROGRAM on that many cases of maps; its bytes must be
@@ -56,14 +62,16 @@ usage: peer COMMAND
                                  run PROGRAM on that many inputs of gen, and on each with all
                                  requests struck that a level does not dominate, for every
                                  level; the replies to those that stay must be the same bytes
+  quiet --rules PROGRAM SEEDS N [--from S]
+                                 the same under either rule, as with compare
   beside K [PROGRAM]             show the replies to the input from standard input, and beside
                                  them those to it with all requests struck that level K does
                                  not dominate
   beside --day [PROGRAM]         the same of a day with a teacher marking, at level 0
   converse PROGRAM               hold a dialogue with PROGRAM, one request at a time
   serial SEEDS N                 check demand 3 on random runs of the peer's own desk
-  cover SEEDS N                  count the openings and replies that gen's inputs meet; all orders
-                                 of the levels take 300 seeds
+  cover SEEDS N                  count the openings and replies that gen's inputs meet, under
+                                 either rule; all orders of the levels take 600 seeds
   talk [PROGRAM]                 type requests in words, see replies in words
   talk --day [PROGRAM]           play document 01's day at the desk
   bytes                          turn lines in the words of talk, an open and requests, into
@@ -72,10 +80,12 @@ usage: peer COMMAND
                                  every byte and word must be as the guide says
   guide --write FILE [PROGRAM]   write the guide with each recipe's transcript made anew, to
                                  standard output, which must not be FILE itself
-  slip K                         run, with slip K (1, 2 ..) made on purpose, to see that the
+  slip K [RULE]                  run, with slip K (1, 2 ..) made on purpose, to see that the
                                  checks can fail
   help                           this text
 
+RULE is A or B, and A where nothing is said: in a house under A signals are given at certify, in one
+under B at commit.
 PROGRAM is a path, or a path and arguments in one word: 'target/release/peer run'. It has to
 end with exit status 0. Where it is left out, the peer's own desk answers.
 Exit status: 0 all is well, 1 a check found something, 2 wrong usage or a failed start.
@@ -106,17 +116,17 @@ fn dispatch(words: &[&str]) -> Result<(), Stop> {
     }
     match *words {
         ["help"] => Ok(out.write_all(HELP.as_bytes())?),
-        ["run"] => run_here(BY_THE_RULES),
-        ["slip", number] => run_here(numbered(&slips::SLIPS, number)?),
+        ["run", ref rule @ ..] => run_here(BY_THE_RULES, rule),
+        ["slip", number, ref rule @ ..] => run_here(numbered(&slips::SLIPS, number)?, rule),
         ["gen", "--random", seed] => {
             Ok(out.write_all(&generator::random_bytes(parse(seed, "SEED")?))?)
         }
         ["gen", "--map", seed] => {
             Ok(out.write_all(&maps::Case::of_seed(parse(seed, "SEED")?).to_bytes())?)
         }
-        ["gen", seed, requests] => {
-            let input = generator::input(parse(seed, "SEED")?, parse_requests(requests)?);
-            Ok(out.write_all(&input)?)
+        ["gen", seed, requests, ref rule @ ..] => {
+            let (seed, rule) = (parse(seed, "SEED")?, parse_rule(rule)?);
+            Ok(out.write_all(&generator::input(seed, rule, parse_requests(requests)?))?)
         }
         ["compare", ref rest @ ..] => compare_here(rest, &mut out),
         ["maps", ref rest @ ..] => maps_here(rest, &mut out),
@@ -162,22 +172,32 @@ fn split_from<'a, 'b>(words: &'a [&'b str]) -> Result<(&'a [&'b str], u64), Stop
     }
 }
 
+/// Whether the words begin with `--rules`, and the words behind it.
+fn split_rules<'a, 'b>(words: &'a [&'b str]) -> (Rules, &'a [&'b str]) {
+    match words {
+        ["--rules", rest @ ..] => (Rules::Either, rest),
+        _ => (Rules::OnlyA, words),
+    }
+}
+
 fn compare_here(words: &[&str], out: &mut impl Write) -> Result<(), Stop> {
     let (words, from) = split_from(words)?;
+    let (rules, words) = split_rules(words);
     match *words {
-        ["--random", program, count] => {
+        ["--random", program, count] if rules == Rules::OnlyA => {
             compare::compare(program, &Inputs::Random, from, parse_count(count, "COUNT")?, out)
         }
-        [program, seeds, requests] => {
-            let inputs = Inputs::Generated { requests: parse_requests(requests)? };
+        [program, seeds, requests] if program != "--random" => {
+            let inputs = Inputs::Generated { requests: parse_requests(requests)?, rules };
             compare::compare(program, &inputs, from, parse_count(seeds, "SEEDS")?, out)
         }
         _ => Err(usage(&["compare"])),
     }
 }
 
-fn run_here(conduct: Conduct) -> Result<(), Stop> {
-    Ok(run::serve(io::stdin().lock(), io::stdout().lock(), conduct)?)
+fn run_here(conduct: Conduct, rule: &[&str]) -> Result<(), Stop> {
+    let rule = parse_rule(rule)?;
+    Ok(run::serve(io::stdin().lock(), io::stdout().lock(), rule, conduct)?)
 }
 
 fn maps_here(words: &[&str], out: &mut impl Write) -> Result<(), Stop> {
@@ -194,10 +214,11 @@ fn map_here(conduct: maps::Conduct, out: &mut impl Write) -> Result<(), Stop> {
 }
 
 fn quiet_here(words: &[&str], out: &mut impl Write) -> Result<(), Stop> {
-    match split_from(words)? {
-        (&[program, seeds, requests], from) => {
+    let (words, from) = split_from(words)?;
+    match split_rules(words) {
+        (rules, &[program, seeds, requests]) => {
             let requests = parse_requests(requests)?;
-            quiet::quiet(program, requests, from, parse_count(seeds, "SEEDS")?, out)
+            quiet::quiet(program, rules, requests, from, parse_count(seeds, "SEEDS")?, out)
         }
         _ => Err(usage(&["quiet"])),
     }
@@ -228,6 +249,18 @@ fn numbered<T: Copy>(slips: &[(&str, T)], number: &str) -> Result<T, Stop> {
         Stop::Cannot(format!("there is no slip {number}: K is 1 to {}", slips.len()))
     })?;
     Ok(*slip)
+}
+
+/// The rule that the last word of a command tells, A where there is none.
+fn parse_rule(words: &[&str]) -> Result<Rule, Stop> {
+    match words {
+        [] => Ok(Rule::A),
+        [word] => Rule::named(word)
+            .ok_or_else(|| Stop::Cannot(format!("RULE has to be A or B, not '{word}'"))),
+        [_, more, ..] => {
+            Err(Stop::Cannot(format!("RULE is the last word, and '{more}' follows it")))
+        }
+    }
 }
 
 fn parse(word: &str, name: &str) -> Result<u64, Stop> {

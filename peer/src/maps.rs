@@ -13,6 +13,7 @@ use crate::cover::{self, check_met, print_met, unmet};
 use crate::desk::{Desk, Refusal};
 use crate::opening::Opening;
 use crate::progress::each_seed;
+use crate::rule::Rule;
 use crate::run::answer_whole;
 use crate::stop::Stop;
 use crate::wire::{hex, Operation, REPLY_BYTES};
@@ -164,11 +165,12 @@ fn explain(case: &Case, ours: &Left, theirs: &[u8]) -> Option<String> {
 }
 
 fn words_for_openings(case: &Case, ours: u8, theirs: Option<&u8>) -> String {
-    let (levels, table) = (hex(&case.opening.levels), hex(&case.opening.table));
+    let Opening { levels, table, rule } = &case.opening;
+    let (levels, table) = (hex(levels), hex(table));
     let theirs = theirs.map_or("nothing".to_string(), u8::to_string);
     format!(
         "the openings differ\n  the peer:    {ours}\n  the program: {theirs}\n\
-         the levels are {levels}\nthe table is {table}"
+         the levels are {levels}\nthe table is {table}\nthe rule is {rule}"
     )
 }
 
@@ -202,7 +204,7 @@ fn words_for_untouched(case: &Case, byte: usize, theirs: Option<&u8>) -> String 
 /// One of the things that the cases have to meet.
 type Meets = fn(&Case, &Left) -> bool;
 
-const MEETS: [(&str, Meets); 10] = [
+const MEETS: [(&str, Meets); 14] = [
     ("a refusal and a done read behind it", |_, left| {
         has_then_done(left, |number| number > Refusal::Delayed.number())
     }),
@@ -222,8 +224,30 @@ const MEETS: [(&str, Meets); 10] = [
         left.count < case.map.items.len() && case.room > left.reply_bytes()
     }),
     ("items, and no whole place", |case, _| !case.map.items.is_empty() && case.room < REPLY_BYTES),
-    ("a lock of the map seen after it", |_, left| left.shows),
+    ("rule A, and a lock of the map seen after it", |case, left| {
+        left.shows && is_under(case, Rule::A)
+    }),
+    ("rule B, and a lock of the map seen after it", |case, left| {
+        left.shows && is_under(case, Rule::B)
+    }),
+    ("a rule that is none, alone", |case, left| is_no_rule(left) && !is_wrong_otherwise(case)),
+    ("a rule that is none, and an opening wrong in other ways", |case, left| {
+        is_no_rule(left) && is_wrong_otherwise(case)
+    }),
+    ("the rule 2", |case, left| is_no_rule(left) && case.opening.rule == 2),
 ];
+
+fn is_under(case: &Case, rule: Rule) -> bool {
+    case.opening.rule == rule.number()
+}
+
+fn is_no_rule(left: &Left) -> bool {
+    left.number == Refusal::NoRule.number()
+}
+
+fn is_wrong_otherwise(case: &Case) -> bool {
+    Desk::open(&case.opening.clone().under(Rule::A)).is_err()
+}
 
 fn zipped<const N: usize>(numbers: [usize; N], counts: [u64; N]) -> Vec<(usize, u64)> {
     numbers.into_iter().zip(counts).collect()
@@ -236,7 +260,7 @@ fn has_then_done(left: &Left, wanted: fn(u8) -> bool) -> bool {
 }
 
 /// The numbers that an opening can get.
-const OPENINGS: [u8; 4] = [0, 13, 14, 16];
+const OPENINGS: [u8; 5] = [0, 13, 14, 16, 28];
 
 /// What the cases met, so that a comparison that tried nothing is noticed.
 #[derive(Default)]
@@ -257,7 +281,8 @@ impl Met {
             *count += u64::from(left.number == number);
         }
         for (count, length) in self.tables.iter_mut().zip(TABLE_LENGTHS) {
-            *count += u64::from(case.opening.table.len() == length);
+            let is_refused = left.number == Refusal::ItemCount.number();
+            *count += u64::from(is_refused && case.opening.table.len() == length);
         }
         for number in left.numbers() {
             self.numbers[usize::from(number)] += 1;

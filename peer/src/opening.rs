@@ -1,6 +1,7 @@
 //! What a house is opened with, as a caller hands it over: the desk judges it.
 
 use crate::order::TABLE_BYTES;
+use crate::rule::Rule;
 
 #[derive(Clone, Debug, PartialEq, Eq)]
 pub struct Opening {
@@ -8,11 +9,19 @@ pub struct Opening {
     pub levels: Vec<u8>,
     /// Which level dominates which.
     pub table: Vec<u8>,
+    /// The number of a rule (CR 7). An opening over the wire names none, and takes A.
+    pub rule: u8,
 }
 
 impl Opening {
+    /// Under rule A.
     pub fn new(levels: &[u8], table: &[u8]) -> Opening {
-        Opening { levels: levels.to_vec(), table: table.to_vec() }
+        Opening { levels: levels.to_vec(), table: table.to_vec(), rule: Rule::A.number() }
+    }
+
+    /// The same under another rule.
+    pub fn under(self, rule: Rule) -> Opening {
+        Opening { rule: rule.number(), ..self }
     }
 
     /// The bytes that open the house over the wire: how many items, the levels, the table.

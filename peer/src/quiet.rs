@@ -1,12 +1,16 @@
 //! CR 3 by brute force: requests struck that a level does not dominate change no reply to the others,
 //! and nothing of the house at the levels that it dominates.
 
-use crate::compare::{answer_of, compare_one, explain_replies, first_difference, reply_at, Inputs};
+use crate::compare::{
+    answer_of, compare_one, explain_replies, first_difference, reply_at, Inputs, Rules,
+};
 use crate::cover::check_met;
 use crate::desk::{Desk, Item, Place, Refusal, LEVELS, PLACES_PER_LEVEL};
+use crate::generator;
 use crate::opening::split_header;
 use crate::order::Order;
 use crate::progress::each_seed;
+use crate::rule::Rule;
 use crate::run::{opened, Conduct, BY_THE_RULES};
 use crate::stop::Stop;
 use crate::strike::{stays, Struck, STRUCK, WHOLE};
@@ -14,22 +18,28 @@ use crate::wire::{requests_in, Operation, Request, REPLY_BYTES};
 use crate::words;
 use std::io::{self, Write};
 
+/// The replies are the program's, under the rules that it can be told; the houses are the peer's own,
+/// under either.
 pub fn quiet(
     command: &str,
+    rules: Rules,
     requests: usize,
     from: u64,
     count: u64,
     out: &mut impl Write,
 ) -> Result<(), Stop> {
-    let inputs = Inputs::Generated { requests };
+    let inputs = Inputs::Generated { requests, rules };
     let (mut met, mut compared) = (Met::default(), 0);
     each_seed("struck", from, count, |seed| {
-        let input = inputs.bytes(seed);
-        let checked = check_replies(command, &input).and_then(|replies| {
-            compared += replies;
-            check_houses(&input, BY_THE_RULES, &mut met).map_err(Stop::Found)
-        });
-        checked.map_err(|stop| stop.on_input_of(&inputs.how_to_make(seed)))
+        let (rule, input) = (inputs.rule(seed), inputs.bytes(seed));
+        compared += check_replies(&rules.command(command, rule), &input, rule)
+            .map_err(|stop| stop.on_input_of(&inputs.how_to_make(seed)))?;
+        Rule::ALL.into_iter().try_for_each(|rule| {
+            let input = generator::input(seed, rule, requests);
+            check_houses(&input, rule, BY_THE_RULES, &mut met)
+                .map_err(Stop::Found)
+                .map_err(|stop| stop.on_input_of(&format!("peer gen {seed} {requests} {rule}")))
+        })
     })?;
     met.print(out)?;
     check_met(count, &met.faults())?;
@@ -42,13 +52,13 @@ pub fn quiet(
 
 /// Holds what the program answers to the struck lists against its own answer to the whole one, and
 /// gives the number of replies that were held against each other.
-fn check_replies(command: &str, input: &[u8]) -> Result<usize, Stop> {
-    let whole = answer_of(Some(command), WHOLE, input)?;
+fn check_replies(command: &str, input: &[u8], rule: Rule) -> Result<usize, Stop> {
+    let whole = answer_of(Some(command), WHOLE, input, rule)?;
     let mut compared = 0;
     for k in 0..LEVELS {
         let struck = Struck::of(input, k);
         let due = struck.replies(&whole);
-        let explained = |theirs: &[u8]| explain(input, &struck, &due, theirs);
+        let explained = |theirs: &[u8]| explain(input, rule, &struck, &due, theirs);
         compare_one(command, &struck.input, due.len(), explained)
             .map_err(|stop| stop.at(&struck_at(k)))?;
         compared += due.len() / REPLY_BYTES;
@@ -61,10 +71,10 @@ fn struck_at(k: u8) -> String {
 }
 
 /// The first difference in words, if there is one.
-fn explain(input: &[u8], struck: &Struck, due: &[u8], theirs: &[u8]) -> Option<String> {
+fn explain(input: &[u8], rule: Rule, struck: &Struck, due: &[u8], theirs: &[u8]) -> Option<String> {
     let index = first_difference(due, theirs)? / REPLY_BYTES;
     let (left, right) = ((WHOLE, reply_at(due, index)), (STRUCK, reply_at(theirs, index)));
-    let replies = explain_replies(input, struck.index_in_whole(index), left, right);
+    let replies = explain_replies(input, rule, struck.index_in_whole(index), left, right);
     Some(format!("a reply is not the same\n{replies}"))
 }
 
@@ -75,15 +85,15 @@ fn up_to(desk: &Desk, k: u8, order: Order) -> impl PartialEq + '_ {
     let items: Vec<&Item> = desk.items.iter().filter(|item| sees(item.level)).collect();
     let places: Vec<&Place> = desk.places.iter().filter(|place| sees(place.level)).collect();
     let tickets = (0..LEVELS).zip(desk.next_ticket).filter(|(level, _)| sees(*level));
-    (desk.levels(), desk.order, items, places, tickets.collect::<Vec<_>>())
+    (desk.opening(), items, places, tickets.collect::<Vec<_>>())
 }
 
 /// A second reading of CR 3, on the peer's own desk: after each request the house of the whole list
 /// and that of the struck one are the same up to k. Notes what the whole list meets.
-fn check_houses(input: &[u8], conduct: Conduct, met: &mut Met) -> Result<(), String> {
+fn check_houses(input: &[u8], rule: Rule, conduct: Conduct, met: &mut Met) -> Result<(), String> {
     let (header, requests) = split_header(input);
-    let (Some(Desk { order, .. }), Some(Ok(mut whole))) = (opened(header), (conduct.open)(header))
-    else {
+    let houses = (opened(header, rule), (conduct.open)(header, rule));
+    let (Some(Desk { order, .. }), Some(Ok(mut whole))) = houses else {
         return Ok(());
     };
     let mut struck = vec![whole.clone(); LEVELS.into()];
@@ -149,8 +159,13 @@ impl Moment<'_> {
     }
 
     fn is_read_unseen(&self) -> bool {
-        let written = self.house.written_by(self.request);
-        self.unseen().any(|place| place.reads_one_of(&written))
+        let changed = self.house.changed_by(self.request);
+        self.unseen().any(|place| place.reads_one_of(&changed))
+    }
+
+    /// Whether it gives signals in its house.
+    fn signals(&self) -> bool {
+        self.stays_and_is_done(self.house.rule.signals_at())
     }
 
     /// Whether a begin that k does not dominate was done before.
@@ -164,13 +179,16 @@ impl Moment<'_> {
 type Meets = fn(&Moment) -> bool;
 
 /// Unseen is whom the level does not dominate.
-const MEETS: [(&str, Meets); 8] = [
+const MEETS: [(&str, Meets); 9] = [
     ("a struck request that was done", |at| !at.stays() && at.number == 0),
     ("a struck request that was done, of a level that does not dominate it either", |at| {
         at.number == 0 && at.order.are_apart(at.k, at.request.level)
     }),
-    ("a done certify of what somebody unseen has read", |at| {
-        at.stays_and_is_done(Operation::Certify) && at.is_read_unseen()
+    ("a done certify, under rule A, of what somebody unseen has read", |at| {
+        at.house.rule == Rule::A && at.signals() && at.is_read_unseen()
+    }),
+    ("a done commit, under rule B, of what somebody unseen has read", |at| {
+        at.house.rule == Rule::B && at.signals() && at.is_read_unseen()
     }),
     ("a done begin while eight or more unseen are open", |at| {
         at.stays_and_is_done(Operation::Begin) && at.unseen().count() >= PLACES_PER_LEVEL
@@ -228,15 +246,17 @@ impl Met {
 mod tests {
     use super::*;
     use crate::cover::ENOUGH;
-    use crate::generator;
     use crate::slips::SLIPS;
     use std::ops::Range;
 
     fn met(seeds: Range<u64>, requests: usize) -> Met {
         let mut met = Met::default();
         for seed in seeds {
-            let input = generator::input(seed, requests);
-            check_houses(&input, BY_THE_RULES, &mut met).expect("no house shows what was struck");
+            for rule in Rule::ALL {
+                let input = generator::input(seed, rule, requests);
+                let checked = check_houses(&input, rule, BY_THE_RULES, &mut met);
+                checked.expect("no house shows what was struck");
+            }
         }
         met
     }
@@ -255,17 +275,18 @@ mod tests {
         }
     }
 
-    /// Slips 1 and 15 show in a reply alone; the others by which a level can notice those that it does
-    /// not dominate show in the house.
+    /// Slips 1, 15 and 40 show in a reply alone; the others by which a level can notice those that it
+    /// does not dominate show in the house.
     #[test]
     fn the_houses_show_what_a_level_can_notice() {
         for (number, (name, conduct)) in (1..).zip(SLIPS) {
             let shows = |seed: &u64| {
-                let input = generator::input(*seed, 400);
-                check_houses(&input, conduct, &mut Met::default()).is_err()
+                let rule = generator::rule_of(*seed);
+                let input = generator::input(*seed, rule, 400);
+                check_houses(&input, rule, conduct, &mut Met::default()).is_err()
             };
             let found = (0..24).filter(shows).count();
-            let is_noticed = [2, 10, 11, 20, 27, 28, 30].contains(&number);
+            let is_noticed = [2, 10, 11, 20, 27, 28, 30, 41].contains(&number);
             assert_eq!(found > 0, is_noticed, "{found} of 24: {name}");
         }
     }

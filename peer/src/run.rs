@@ -3,11 +3,13 @@
 use crate::desk::{Desk, Refusal, MOST_ITEMS};
 use crate::opening::{split_header, Opening};
 use crate::order::TABLE_BYTES;
+use crate::rule::Rule;
 use crate::wire::{Reply, Request, REQUEST_BYTES};
 use std::io::{self, Read, Write};
 
-/// Opens a house from the bytes that have come: None until the whole header is there.
-pub type Open = fn(&[u8]) -> Option<Result<Desk, Refusal>>;
+/// Opens a house from the bytes that have come, which do not tell the rule: None until the whole
+/// header is there.
+pub type Open = fn(&[u8], Rule) -> Option<Result<Desk, Refusal>>;
 pub type Answer = fn(&mut Desk, &Request) -> Reply;
 
 /// How a desk opens and answers: as the rules say, or with one of the deliberate slips.
@@ -19,13 +21,14 @@ pub struct Conduct {
 
 pub const BY_THE_RULES: Conduct = Conduct { open, answer: Desk::answer };
 
-pub fn open(bytes: &[u8]) -> Option<Result<Desk, Refusal>> {
-    open_with(bytes, Desk::open)
+pub fn open(bytes: &[u8], rule: Rule) -> Option<Result<Desk, Refusal>> {
+    open_with(bytes, rule, Desk::open)
 }
 
 /// Opens by the levels and the table of a header. A count of 0 or above 64 is refused without them.
 pub fn open_with(
     bytes: &[u8],
+    rule: Rule,
     open: impl FnOnce(&Opening) -> Result<Desk, Refusal>,
 ) -> Option<Result<Desk, Refusal>> {
     let (&count, rest) = bytes.split_first()?;
@@ -35,7 +38,7 @@ pub fn open_with(
     }
     let (levels, rest) = rest.split_at_checked(count)?;
     let table = rest.get(..TABLE_BYTES)?;
-    Some(open(&Opening::new(levels, table)))
+    Some(open(&Opening::new(levels, table).under(rule)))
 }
 
 enum State {
@@ -46,6 +49,7 @@ enum State {
 
 /// One run of the program, fed with input as it comes.
 pub struct Run {
+    rule: Rule,
     conduct: Conduct,
     state: State,
     /// What has arrived and is not yet a whole header or request.
@@ -53,8 +57,8 @@ pub struct Run {
 }
 
 impl Run {
-    pub fn new(conduct: Conduct) -> Run {
-        Run { conduct, state: State::Opening, waiting: Vec::new() }
+    pub fn new(rule: Rule, conduct: Conduct) -> Run {
+        Run { rule, conduct, state: State::Opening, waiting: Vec::new() }
     }
 
     pub fn is_stopped(&self) -> bool {
@@ -65,7 +69,7 @@ impl Run {
     pub fn feed(&mut self, bytes: &[u8]) -> Vec<u8> {
         self.waiting.extend_from_slice(bytes);
         if matches!(self.state, State::Opening) {
-            match (self.conduct.open)(&self.waiting) {
+            match (self.conduct.open)(&self.waiting, self.rule) {
                 None => return Vec::new(),
                 Some(Err(refusal)) => return self.stop(refusal),
                 Some(Ok(desk)) => {
@@ -116,28 +120,33 @@ pub fn answer_whole<'a>(
 }
 
 /// The house that this header opens, if it is whole and not refused.
-pub fn opened(header: &[u8]) -> Option<Desk> {
-    open(header).and_then(Result::ok)
+pub fn opened(header: &[u8], rule: Rule) -> Option<Desk> {
+    open(header, rule).and_then(Result::ok)
 }
 
 /// How many replies are due to a whole input: one to each whole request, or one to an opening that
 /// is refused or cut short.
 pub fn replies_due(input: &[u8]) -> usize {
     let (header, requests) = split_header(input);
-    opened(header).map_or(1, |_| requests.len() / REQUEST_BYTES)
+    opened(header, Rule::A).map_or(1, |_| requests.len() / REQUEST_BYTES)
 }
 
 /// All that the program writes for this whole input.
-pub fn output_for(input: &[u8], conduct: Conduct) -> Vec<u8> {
-    let mut run = Run::new(conduct);
+pub fn output_for(input: &[u8], rule: Rule, conduct: Conduct) -> Vec<u8> {
+    let mut run = Run::new(rule, conduct);
     let mut output = run.feed(input);
     output.extend(run.end());
     output
 }
 
 /// Runs until the input ends or the opening is refused. Each reply leaves as soon as it is due.
-pub fn serve(mut input: impl Read, mut output: impl Write, conduct: Conduct) -> io::Result<()> {
-    let mut run = Run::new(conduct);
+pub fn serve(
+    mut input: impl Read,
+    mut output: impl Write,
+    rule: Rule,
+    conduct: Conduct,
+) -> io::Result<()> {
+    let mut run = Run::new(rule, conduct);
     let mut buffer = [0; 1 << 16];
     while !run.is_stopped() {
         let replies = match input.read(&mut buffer) {
@@ -169,7 +178,7 @@ mod tests {
 
     #[test]
     fn the_worked_day() {
-        assert_eq!(output_for(&DAY_INPUT, BY_THE_RULES), DAY_OUTPUT);
+        assert_eq!(output_for(&DAY_INPUT, Rule::A, BY_THE_RULES), DAY_OUTPUT);
     }
 
     #[test]
@@ -194,19 +203,27 @@ mod tests {
         ];
         for (levels, table, number) in cases {
             let input = [levels, table].concat();
-            assert_eq!(output_for(&input, BY_THE_RULES), refused(number), "input {input:?}");
+            assert_eq!(
+                output_for(&input, Rule::A, BY_THE_RULES),
+                refused(number),
+                "input {input:?}"
+            );
         }
-        assert_eq!(output_for(&[&[1, 0][..], &reversed].concat(), BY_THE_RULES), Vec::new());
-        assert_eq!(output_for(&DAY_INPUT[..53], BY_THE_RULES), DAY_OUTPUT[..32]);
+        assert_eq!(
+            output_for(&[&[1, 0][..], &reversed].concat(), Rule::A, BY_THE_RULES),
+            Vec::new()
+        );
+        assert_eq!(output_for(&DAY_INPUT[..53], Rule::A, BY_THE_RULES), DAY_OUTPUT[..32]);
     }
 
     #[test]
     fn pieces_do_not_matter() {
         for seed in 0..60 {
-            let input = generator::input(seed, 20);
-            let whole = output_for(&input, BY_THE_RULES);
+            let rule = generator::rule_of(seed);
+            let input = generator::input(seed, rule, 20);
+            let whole = output_for(&input, rule, BY_THE_RULES);
             for size in 1..30 {
-                let mut run = Run::new(BY_THE_RULES);
+                let mut run = Run::new(rule, BY_THE_RULES);
                 let mut output = Vec::new();
                 for piece in input.chunks(size) {
                     output.extend(run.feed(piece));
@@ -220,8 +237,9 @@ mod tests {
     #[test]
     fn as_many_replies_come_as_are_due() {
         for seed in 0..200 {
-            for input in [generator::input(seed, 20), generator::random_bytes(seed)] {
-                let output = output_for(&input, BY_THE_RULES);
+            let rule = generator::rule_of(seed);
+            for input in [generator::input(seed, rule, 20), generator::random_bytes(seed)] {
+                let output = output_for(&input, rule, BY_THE_RULES);
                 assert_eq!(output.len(), replies_due(&input) * REPLY_BYTES, "seed {seed}");
             }
         }
@@ -230,10 +248,11 @@ mod tests {
     #[test]
     fn the_streams_carry_the_same_bytes() {
         for seed in 0..60 {
-            let input = generator::input(seed, 50);
+            let rule = generator::rule_of(seed);
+            let input = generator::input(seed, rule, 50);
             let mut output = Vec::new();
-            serve(input.as_slice(), &mut output, BY_THE_RULES).expect("reading from memory");
-            assert_eq!(output, output_for(&input, BY_THE_RULES));
+            serve(input.as_slice(), &mut output, rule, BY_THE_RULES).expect("reading from memory");
+            assert_eq!(output, output_for(&input, rule, BY_THE_RULES));
         }
     }
 }

@@ -2,9 +2,10 @@
 //! plain table, read what the desk answered and leave what the desk holds.
 
 use crate::desk::Desk;
-use crate::generator::Generator;
+use crate::generator::{rule_of, Generator};
 use crate::order::Order;
 use crate::progress::each_seed;
+use crate::rule::Rule;
 use crate::run::Answer;
 use crate::stop::Stop;
 use crate::wire::{Operation, Reply, Request};
@@ -139,21 +140,24 @@ fn check_run(
 
 pub fn serial(seeds: u64, requests: usize, out: &mut impl Write) -> Result<(), Stop> {
     let (mut commits, mut reads) = (0, 0);
-    let mut orders: Vec<Order> = Vec::new();
+    let (mut orders, mut under_b) = (Vec::<Order>::new(), 0);
     each_seed("checked", 0, seeds, |seed| {
-        let generator = Generator::new(seed);
+        let rule = rule_of(seed);
+        let generator = Generator::new(seed, rule);
         let order = generator.desk().order;
         let (more_commits, more_reads) = check_run(generator, requests, Desk::answer)
             .map_err(|what| Stop::Found(format!("run {seed}, {what}")))?;
         commits += more_commits;
         reads += more_reads;
+        under_b += u64::from(rule == Rule::B);
         orders.extend((!orders.contains(&order)).then_some(order));
         Ok(())
     })?;
     writeln!(
         out,
-        "checked {seeds} runs of {requests} requests, with {} orders of levels: {commits} committed \
-         transactions, with {reads} reads, are as if run alone in the order of their commits",
+        "checked {seeds} runs of {requests} requests, {under_b} of them under rule B, with {} orders \
+         of levels: {commits} committed transactions, with {reads} reads, are as if run alone in the \
+         order of their commits",
         orders.len()
     )?;
     Ok(())
@@ -166,17 +170,25 @@ mod tests {
 
     #[test]
     fn the_desk_is_serial() {
-        for seed in 0..40 {
-            let (commits, _) = check_run(Generator::new(seed), 400, Desk::answer).expect("serial");
-            assert!(commits > 0, "run {seed} commits nothing");
+        for (seed, rule) in (0..40).flat_map(|seed| Rule::ALL.map(|rule| (seed, rule))) {
+            let generator = Generator::new(seed, rule);
+            let (commits, _) = check_run(generator, 400, Desk::answer).expect("serial");
+            assert!(commits > 0, "run {seed} under rule {rule} commits nothing");
         }
     }
 
+    /// Under which rules the slip of this name breaks demand 3.
+    fn broken_by(name: &str) -> Vec<Rule> {
+        let (_, slip) = SLIPS.into_iter().find(|(slip, _)| *slip == name).expect(name);
+        let fails = |seed, rule| check_run(Generator::new(seed, rule), 400, slip.answer).is_err();
+        let is_broken = |rule: &Rule| (0..80).any(|seed| fails(seed, *rule));
+        Rule::ALL.into_iter().filter(is_broken).collect()
+    }
+
     #[test]
-    fn a_commit_after_a_signal_is_noticed() {
-        let (_, slip) = SLIPS[5];
-        let failed =
-            (0..40).filter_map(|seed| check_run(Generator::new(seed), 400, slip.answer).err());
-        assert!(failed.count() > 0);
+    fn a_commit_after_a_signal_and_a_signal_not_given_are_noticed() {
+        let late = "lets a certified transaction commit after it was signalled";
+        assert_eq!(broken_by(late), Rule::ALL);
+        assert_eq!(broken_by("gives no signal under rule B"), [Rule::B]);
     }
 }

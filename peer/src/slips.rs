@@ -1,15 +1,22 @@
 //! The slips the trade has made (document 01) and those that the change requests invite, made here
 //! on purpose: a desk that behaves but for one slip. The checks must find each of them, or they are
 //! not worth running.
+//!
+//! Of the slips that CR 7 invites no reply shows these, so they are not listed: to signal others
+//! that are not above (nobody else of the level reads what is certified), to signal again at commit under
+//! rule A, and to keep the rule in a house whose opening is refused (it has no items).
 
-use crate::desk::{delayed_by, Cell, Desk, Place, Refusal, Standing, LEVELS, PLACES_PER_LEVEL};
+use crate::desk::{
+    delayed_by, Cell, Desk, Item, Place, Refusal, Standing, LEVELS, PLACES_PER_LEVEL,
+};
 use crate::opening::Opening;
 use crate::order::{entry, flaws, levels, Flaw, Order, Table};
+use crate::rule::Rule;
 use crate::run::{self, open_with, Answer, Conduct, Open};
 use crate::wire::{Operation, Reply, Request};
 use std::cmp::Reverse;
 
-pub const SLIPS: [(&str, Conduct); 30] = [
+pub const SLIPS: [(&str, Conduct); 43] = [
     ("tells the certifier how many readers were signalled", answers(tells_count)),
     ("delays a certify for a reader above", answers(delays_for_reader_above)),
     ("counts a transaction's own read lock against its certify", answers(counts_own_read)),
@@ -32,17 +39,48 @@ pub const SLIPS: [(&str, Conduct); 30] = [
     ("names the holder at the lowest place on whatever item", answers(looks_at_places_first)),
     ("takes the holder for one of the asker's level", answers(tells_own_level)),
     ("names whoever has a lock on the item, in the way or not", answers(names_any_lock)),
-    ("takes the table's rows for its columns", opens(|bytes| open_with(bytes, by_columns))),
-    ("takes a table that is not transitive", opens(|bytes| open_with(bytes, not_transitive))),
-    ("takes a table that is not antisymmetric", opens(|bytes| open_with(bytes, not_antisymmetric))),
-    ("takes a table that is not reflexive", opens(|bytes| open_with(bytes, not_reflexive))),
-    ("takes a byte above 1 in the table for 1", opens(|bytes| open_with(bytes, byte_above_1))),
-    ("looks at the table before the levels", opens(|bytes| open_with(bytes, table_first))),
+    (
+        "takes the table's rows for its columns",
+        opens(|bytes, rule| open_with(bytes, rule, by_columns)),
+    ),
+    (
+        "takes a table that is not transitive",
+        opens(|bytes, rule| open_with(bytes, rule, not_transitive)),
+    ),
+    (
+        "takes a table that is not antisymmetric",
+        opens(|bytes, rule| open_with(bytes, rule, not_antisymmetric)),
+    ),
+    (
+        "takes a table that is not reflexive",
+        opens(|bytes, rule| open_with(bytes, rule, not_reflexive)),
+    ),
+    (
+        "takes a byte above 1 in the table for 1",
+        opens(|bytes, rule| open_with(bytes, rule, byte_above_1)),
+    ),
+    (
+        "looks at the table before the levels",
+        opens(|bytes, rule| open_with(bytes, rule, table_first)),
+    ),
     ("tells of a level byte above 3 before the header is whole", opens(tells_level_early)),
     ("does a read between incomparable levels", answers(reads_beside)),
     ("compares levels by number where it reads", answers(reads_by_number)),
     ("compares levels by number where a certify signals", answers(signals_by_number)),
     ("delays a certify for a reader of a level with a smaller number", answers(delays_by_number)),
+    ("opens every house under rule A", opens(|bytes, _| run::open(bytes, Rule::A))),
+    ("opens every house under rule B", opens(|bytes, _| run::open(bytes, Rule::B))),
+    ("signals at certify too under rule B", answers(signals_at_both)),
+    ("signals at certify under rule B, and takes it back at an abort", answers(takes_back)),
+    ("gives no signal under rule B", answers(never_signals)),
+    ("signals at an abort too under rule B", answers(signals_at_abort)),
+    ("signals at commit for what it has only read", answers(signals_for_reads)),
+    ("signals at commit for every item of its level", answers(signals_for_level)),
+    ("signals though the commit is refused", answers(signals_when_refused)),
+    ("tells the committer how many readers were signalled", answers(tells_committer_count)),
+    ("delays a commit under rule B for a reader above", answers(delays_commit_for_reader)),
+    ("compares levels by number where a commit signals", answers(commit_signals_by_number)),
+    ("reads again what is certified below, under rule B", answers(reads_again)),
 ];
 
 /// A desk that opens by the rules and answers so.
@@ -59,20 +97,28 @@ fn signals(desk: &Desk) -> usize {
     desk.places.iter().map(|place| place.signalled().len()).sum()
 }
 
-/// Who reads what a certifier has written, of the places that count: on the lowest item, at the
-/// lowest place.
+/// Who reads what the asker has written, of the places that count: on the lowest item, at the lowest
+/// place.
 fn first_reader(desk: &Desk, request: &Request, counts: impl Fn(&Place) -> bool) -> Option<usize> {
-    let written = if request.is(Operation::Certify) { desk.written_by(request) } else { vec![] };
     let reader = |item| desk.places.iter().position(|place| counts(place) && place.cell(item).read);
-    written.into_iter().find_map(reader)
+    desk.changed_by(request).into_iter().find_map(reader)
 }
 
 /// Answers as the desk does, but delays a certify when one of the places that count reads its items.
 fn delay_certify_if(desk: &mut Desk, request: &Request, counts: impl Fn(&Place) -> bool) -> Reply {
+    delay_if(Operation::Certify, desk, request, counts)
+}
+
+fn delay_if(
+    operation: Operation,
+    desk: &mut Desk,
+    request: &Request,
+    counts: impl Fn(&Place) -> bool,
+) -> Reply {
     let before = desk.clone();
     let reply = desk.answer(request);
     match first_reader(&before, request, counts) {
-        Some(holder) if reply.number == 0 => {
+        Some(holder) if request.is(operation) && reply.number == 0 => {
             *desk = before;
             delayed_by(&desk.places[holder], request)
         }
@@ -99,10 +145,14 @@ fn is_delay(reply: &Reply) -> bool {
 }
 
 fn tells_count(desk: &mut Desk, request: &Request) -> Reply {
+    tells_count_at(Operation::Certify, desk, request)
+}
+
+fn tells_count_at(operation: Operation, desk: &mut Desk, request: &Request) -> Reply {
     let before = signals(desk);
     let reply = desk.answer(request);
-    if request.is(Operation::Certify) && reply.number == 0 {
-        return Reply { value: (signals(desk) - before) as u32, ..reply };
+    if request.is(operation) && reply.number == 0 {
+        return Reply { value: signals(desk).saturating_sub(before) as u32, ..reply };
     }
     reply
 }
@@ -127,7 +177,7 @@ fn converts_free_items(desk: &mut Desk, request: &Request) -> Reply {
     };
     let conflicts = desk.conflicts(me, request);
     let is_free = |item: &usize| conflicts.iter().all(|(taken, _)| taken != item);
-    for item in desk.written_by(request).into_iter().filter(is_free) {
+    for item in desk.changed_by(request).into_iter().filter(is_free) {
         let cell = desk.places[me].cell_mut(item);
         cell.write = false;
         cell.certify = true;
@@ -316,10 +366,10 @@ fn table_first(opening: &Opening) -> Result<Desk, Refusal> {
     Desk::open(&proper).and_then(|_| Desk::open(opening))
 }
 
-fn tells_level_early(bytes: &[u8]) -> Option<Result<Desk, Refusal>> {
-    match run::open(&[bytes, &Order::CHAIN.table()].concat()) {
+fn tells_level_early(bytes: &[u8], rule: Rule) -> Option<Result<Desk, Refusal>> {
+    match run::open(&[bytes, &Order::CHAIN.table()].concat(), rule) {
         Some(Err(Refusal::LevelByte)) => Some(Err(Refusal::LevelByte)),
-        _ => run::open(bytes),
+        _ => run::open(bytes, rule),
     }
 }
 
@@ -358,4 +408,107 @@ fn signals_by_number(desk: &mut Desk, request: &Request) -> Reply {
 
 fn delays_by_number(desk: &mut Desk, request: &Request) -> Reply {
     delay_certify_if(desk, request, |place| place.level < request.level)
+}
+
+/// Answers a request of this operation as if the house were under rule A.
+fn under_a(operation: Operation, desk: &mut Desk, request: &Request) -> Reply {
+    let own = desk.rule;
+    if request.is(operation) {
+        desk.rule = Rule::A;
+    }
+    let reply = desk.answer(request);
+    desk.rule = own;
+    reply
+}
+
+/// Answers as the desk does; and in a house under rule B, where a request of this operation gets this
+/// number, the readers above of more items are signalled. `items` gives them for the house before the
+/// request and the place of its asker.
+fn signal_more(
+    desk: &mut Desk,
+    request: &Request,
+    (operation, number): (Operation, u8),
+    items: impl Fn(&Desk, usize) -> Vec<usize>,
+) -> Reply {
+    let before = desk.clone();
+    let reply = desk.answer(request);
+    let is_meant = desk.rule == Rule::B && request.is(operation) && reply.number == number;
+    if let (true, Ok(me)) = (is_meant, before.find(request.level, request.ticket)) {
+        desk.signal_readers(request.level, &items(&before, me));
+    }
+    reply
+}
+
+fn signals_at_both(desk: &mut Desk, request: &Request) -> Reply {
+    under_a(Operation::Certify, desk, request)
+}
+
+fn takes_back(desk: &mut Desk, request: &Request) -> Reply {
+    let changed = desk.changed_by(request);
+    let reply = under_a(Operation::Certify, desk, request);
+    if desk.rule == Rule::B && request.is(Operation::Abort) {
+        let cells = desk.places.iter_mut().flat_map(|place| place.cells.iter_mut());
+        for (_, cell) in cells.filter(|(item, _)| changed.contains(item)) {
+            cell.signalled = false;
+        }
+    }
+    reply
+}
+
+fn never_signals(desk: &mut Desk, request: &Request) -> Reply {
+    under_a(Operation::Commit, desk, request)
+}
+
+fn signals_at_abort(desk: &mut Desk, request: &Request) -> Reply {
+    signal_more(desk, request, (Operation::Abort, 0), |before, me| before.places[me].changed())
+}
+
+fn signals_for_reads(desk: &mut Desk, request: &Request) -> Reply {
+    signal_more(desk, request, (Operation::Commit, 0), |before, me| {
+        before.places[me].cells.keys().copied().collect()
+    })
+}
+
+fn signals_for_level(desk: &mut Desk, request: &Request) -> Reply {
+    signal_more(desk, request, (Operation::Commit, 0), |before, _| {
+        let levels = before.levels();
+        (0..levels.len()).filter(|item| levels[*item] == request.level).collect()
+    })
+}
+
+fn signals_when_refused(desk: &mut Desk, request: &Request) -> Reply {
+    let refused = (Operation::Commit, Refusal::Signalled.number());
+    signal_more(desk, request, refused, |before, me| before.places[me].changed())
+}
+
+fn tells_committer_count(desk: &mut Desk, request: &Request) -> Reply {
+    tells_count_at(Operation::Commit, desk, request)
+}
+
+fn delays_commit_for_reader(desk: &mut Desk, request: &Request) -> Reply {
+    let Desk { order, rule, .. } = *desk;
+    delay_if(Operation::Commit, desk, request, |place| {
+        rule == Rule::B && order.is_above(place.level, request.level)
+    })
+}
+
+fn commit_signals_by_number(desk: &mut Desk, request: &Request) -> Reply {
+    by_number(Operation::Commit, desk, request)
+}
+
+/// Whoever has the read lock is not delayed. Under rule A it is signalled or in the certifier's way.
+fn reads_again(desk: &mut Desk, request: &Request) -> Reply {
+    let reply = desk.answer(request);
+    let item = usize::from(request.item);
+    match desk.find(request.level, request.ticket) {
+        Ok(me)
+            if request.is(Operation::Read)
+                && is_delay(&reply)
+                && desk.places[me].cell(item).read =>
+        {
+            let Item { value, version, .. } = desk.items[item];
+            Reply { value, version, ..Reply::repeating(request) }
+        }
+        _ => reply,
+    }
 }

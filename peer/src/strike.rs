@@ -4,6 +4,7 @@
 use crate::desk::Desk;
 use crate::opening::split_header;
 use crate::order::Order;
+use crate::rule::Rule;
 use crate::run::opened;
 use crate::wire::{requests_in, Request, REPLY_BYTES, REQUEST_BYTES};
 
@@ -29,7 +30,8 @@ pub struct Struck {
 impl Struck {
     pub fn of(input: &[u8], k: u8) -> Struck {
         let (header, requests) = split_header(input);
-        let house = opened(header);
+        // Which requests are struck does not depend on the rule.
+        let house = opened(header, Rule::A);
         let is_opened = house.is_some();
         let order = house.unwrap_or_else(Desk::refused).order;
         let stays: Vec<bool> =
@@ -133,7 +135,7 @@ mod tests {
             let input = [header, behind].concat();
             let struck = Struck::of(&input, 2);
             assert_eq!(struck.input, [header, left].concat(), "{header:?}");
-            let output = output_for(&input, BY_THE_RULES);
+            let output = output_for(&input, Rule::A, BY_THE_RULES);
             assert_eq!((struck.is_opened, struck.replies(&output)), (false, output), "{header:?}");
         }
     }

@@ -5,6 +5,7 @@ use crate::desk::{Desk, Refusal, LEVELS};
 use crate::opening::Opening;
 use crate::order::{closed, flaws, Flaw, Order, Table, TABLE_BYTES};
 use crate::program::Program;
+use crate::rule::Rule;
 use crate::stop::Stop;
 use crate::wire::{hex, Reply, Request, REPLY_BYTES, REQUEST_BYTES};
 use crate::words;
@@ -41,6 +42,9 @@ one line each:
   open 0 1 2 3 table 1111 0101 0011 0001
                            the same with the bytes of the table, row by row: 1 says that the
                            column's level dominates the row's
+  open 0 0 2 rule B        any of these under rule B: signals are given at commit and not at
+                           certify. The wire tells no rule, and a program takes A: under B
+                           the peer's own desk answers
   begin 0                  a new transaction at level 0; its ticket comes back
   read 0 #1 item 0         level 0, ticket 1
   map 0 #1 items 0 1 0     a whole map: the single reads of these items
@@ -55,6 +59,9 @@ one line each:
 
 /// Said of a request before any opening.
 pub const OPEN_FIRST: &str = "open a house first; say 'open 0 0 2'";
+
+/// Said of a house that no program can be asked for.
+const OWN_DESK: &str = "the wire tells no rule: here the peer's own desk answers";
 
 /// A prompt for a person, or the line itself for a transcript of a pipe.
 #[derive(Clone, Copy, PartialEq, Eq)]
@@ -74,6 +81,8 @@ struct Talk<'a, W> {
     sent: Vec<u8>,
     received: Vec<u8>,
     requests: u64,
+    /// How many of them came in houses where no program answers.
+    without_program: u64,
     /// How often the program did not do what the peer's desk does.
     differences: u64,
 }
@@ -100,6 +109,8 @@ pub fn talk(
 pub struct Played {
     pub transcript: String,
     pub requests: u64,
+    /// Of these requests, those in a house under rule B, where the peer's own desk answers.
+    pub under_b: u64,
     pub differences: u64,
 }
 
@@ -108,9 +119,9 @@ pub fn play(command: Option<&str>, lines: &str) -> Result<Played, Stop> {
     let mut transcript = Vec::new();
     let mut talk = Talk::new(command, &mut transcript)?;
     talk.converse(lines.as_bytes(), Manner::Echo)?;
-    let Talk { requests, differences, .. } = talk;
+    let Talk { requests, without_program: under_b, differences, .. } = talk;
     let transcript = String::from_utf8_lossy(&transcript).into_owned();
-    Ok(Played { transcript, requests, differences })
+    Ok(Played { transcript, requests, under_b, differences })
 }
 
 /// Plays document 01's day and checks that its bytes are those of the document.
@@ -129,8 +140,17 @@ impl<'a, W: Write> Talk<'a, W> {
     /// Starts the program at once: one that cannot be talked to is told before any prompt.
     fn new(command: Option<&'a str>, out: W) -> Result<Talk<'a, W>, Stop> {
         let ready = start(command)?;
-        let (sent, received) = (Vec::new(), Vec::new());
-        Ok(Talk { command, ready, house: None, out, sent, received, requests: 0, differences: 0 })
+        Ok(Talk {
+            command,
+            ready,
+            house: None,
+            out,
+            sent: Vec::new(),
+            received: Vec::new(),
+            requests: 0,
+            without_program: 0,
+            differences: 0,
+        })
     }
 
     fn converse(&mut self, mut lines: impl BufRead, manner: Manner) -> Result<(), Stop> {
@@ -188,13 +208,21 @@ impl<'a, W: Write> Talk<'a, W> {
         }
     }
 
+    /// The program for a house under this rule, if one can be asked.
+    fn program_for(&mut self, rule: u8) -> Result<Option<Program>, Stop> {
+        if rule != Rule::A.number() {
+            return Ok(None);
+        }
+        match self.ready.take() {
+            None => start(self.command),
+            ready => Ok(ready),
+        }
+    }
+
     /// Each opening has a desk of its own, and a program of its own.
     fn open(&mut self, opening: &Opening) -> Result<(), Stop> {
         self.close_house()?;
-        let mut program = match self.ready.take() {
-            None => start(self.command)?,
-            ready => ready,
-        };
+        let mut program = self.program_for(opening.rule)?;
         let header = opening.header();
         if let Some(Err(message)) = program.as_mut().map(|program| program.send(&header)) {
             return self.lose_program(&message);
@@ -202,12 +230,12 @@ impl<'a, W: Write> Talk<'a, W> {
         self.sent.extend_from_slice(&header);
         match Desk::open(opening) {
             Ok(desk) => {
-                self.line("opening", &header, &words::house(&desk))?;
+                self.tell_opening(opening, &words::house(&desk))?;
                 self.house = Some(House { desk, program });
                 Ok(())
             }
             Err(refusal) => {
-                self.line("opening", &header, &words::items(&opening.levels))?;
+                self.tell_opening(opening, &words::items(&opening.levels))?;
                 let ours = Reply { number: refusal.number(), ..Reply::default() };
                 let theirs = program.as_mut().map(|program| {
                     let reply = program.receive_reply()?;
@@ -221,6 +249,14 @@ impl<'a, W: Write> Talk<'a, W> {
         }
     }
 
+    fn tell_opening(&mut self, opening: &Opening, words: &str) -> Result<(), Stop> {
+        self.line("opening", &opening.header(), words)?;
+        if opening.rule == Rule::A.number() {
+            return Ok(());
+        }
+        self.say(OWN_DESK)
+    }
+
     fn ask(&mut self, request: &Request) -> Result<(), Stop> {
         let Some(house) = &mut self.house else {
             return self.say(OPEN_FIRST);
@@ -229,6 +265,7 @@ impl<'a, W: Write> Talk<'a, W> {
         let why = words::why(&house.desk, request);
         let ours = house.desk.answer(request);
         self.requests += 1;
+        self.without_program += u64::from(house.desk.rule != Rule::A);
         self.sent.extend_from_slice(&request.to_bytes());
         self.line("request", &request.to_bytes(), &words::request(request))?;
         self.take_reply(ours, theirs, why)
@@ -291,8 +328,14 @@ impl<'a, W: Write> Talk<'a, W> {
             return Err(Stop::Found(message));
         }
         if self.command.is_some() {
-            let requests = self.requests;
+            let (own, requests) = (self.without_program, self.requests - self.without_program);
             writeln!(self.out, "{requests} requests answered; the peer's desk agrees with each")?;
+            if own > 0 {
+                writeln!(
+                    self.out,
+                    "{own} requests under rule B answered by the peer's desk alone"
+                )?;
+            }
         }
         Ok(())
     }
@@ -326,9 +369,20 @@ pub fn parse_line(line: &str) -> Result<Line, String> {
     })
 }
 
+/// Takes `rule A` or `rule B` out of the words of an opening; without them it is A.
+fn take_rule(words: &mut Vec<&str>) -> Result<Rule, String> {
+    let Some(at) = words.iter().position(|word| *word == "rule") else {
+        return Ok(Rule::A);
+    };
+    let told: Vec<&str> = words.drain(at..words.len().min(at + 2)).collect();
+    let name = told.get(1).ok_or("a rule is missing: say 'rule A' or 'rule B'")?;
+    Rule::named(name).ok_or_else(|| format!("'{name}' is not a rule: A or B is wanted"))
+}
+
 /// Levels alone mean the old chain.
 fn parse_opening(words: &str) -> Result<Opening, String> {
-    let words: Vec<&str> = words.split_whitespace().collect();
+    let mut words: Vec<&str> = words.split_whitespace().collect();
+    let rule = take_rule(&mut words)?;
     let is_told = |word: &&str| ["order", "table"].contains(word);
     let (levels, told) = words.split_at(words.iter().position(is_told).unwrap_or(words.len()));
     let levels = parse_levels(levels.iter(), u8::MAX)?;
@@ -341,7 +395,7 @@ fn parse_opening(words: &str) -> Result<Opening, String> {
         Some((&"order", pairs)) => parse_order(pairs)?,
         Some((_, rows)) => parse_table(&rows.concat())?,
     };
-    Ok(Opening::new(&levels, &table))
+    Ok(Opening::new(&levels, &table).under(rule))
 }
 
 fn parse_levels(words: impl Iterator<Item = impl AsRef<str>>, most: u8) -> Result<Vec<u8>, String> {
@@ -470,7 +524,7 @@ mod tests {
         let wanted = "whose level is not dominated: level 1 does not dominate level 2\n";
         assert!(text.contains(wanted), "{text}");
         assert!(text.contains("done: value 0, version 0\n"), "{text}");
-        assert!(text.ends_with("levels: the order 0<1 0<2 1<3 2<3\n"), "{text}");
+        assert!(text.ends_with("levels: the order 0<1 0<2 1<3 2<3; rule A\n"), "{text}");
         let text = transcript("open 0 0 2\nopen 0 order\nopen order 0<1\n");
         assert!(text.contains("at levels 0 0 2; the old chain 0<1<2<3\n"), "{text}");
         assert!(text.contains("at level 0; no level above another\n"), "{text}");
@@ -478,6 +532,41 @@ mod tests {
             text.contains("13, refused: opening: not 1 to 64 items, or the levels or"),
             "{text}"
         );
+    }
+
+    /// The reader above is not signalled by the certify, and is by the commit.
+    #[test]
+    fn a_house_opens_under_either_rule() {
+        let lines = "begin 0\nbegin 2\nread 2 #1 item 0\nwrite 0 #1 item 0 = 7\ncertify 0 #1\n\
+                     ask 2 #1\ncommit 0 #1\nask 2 #1\nshow\n";
+        let told = |rule: &str| {
+            let text = transcript(&format!("open 0 0 2{rule}\n{lines}"));
+            let asked =
+                text.lines().filter(|line| line.contains("  done: ") && line.contains("06"));
+            let is_signalled =
+                |line: &str| line.ends_with("done: 1 signalled, the lowest is item 0");
+            (asked.map(is_signalled).collect::<Vec<bool>>(), text)
+        };
+        for (rule, name, signals) in [
+            ("", "A", [true, true]),
+            (" rule A", "A", [true, true]),
+            (" rule B", "B", [false, true]),
+        ] {
+            let (asked, text) = told(rule);
+            assert_eq!(asked, signals, "{text}");
+            assert!(text.ends_with(&format!("the old chain 0<1<2<3; rule {name}\n")), "{text}");
+            assert_eq!(text.contains(OWN_DESK), name == "B", "{text}");
+        }
+        let text =
+            transcript("open 9 rule B\nopen 0 rule\nopen 0 rule C\nopen rule B 0 order 0<1\n");
+        for wanted in [
+            &format!("{OWN_DESK}\n  reply    0e"),
+            "a rule is missing: say 'rule A' or 'rule B'",
+            "'C' is not a rule: A or B is wanted",
+            "at level 0; the order 0<1; rule B\n",
+        ] {
+            assert!(text.contains(wanted), "{wanted}: {text}");
+        }
     }
 
     #[test]

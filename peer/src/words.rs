@@ -1,6 +1,7 @@
 //! Requests, replies and the house in words.
 
 use crate::desk::{Cell, Desk, Place, Refusal, Standing};
+use crate::rule::Rule;
 use crate::wire::{Operation, Reply, Request};
 use std::fmt::Write;
 
@@ -76,7 +77,9 @@ pub fn why(desk: &Desk, request: &Request) -> Option<(Refusal, String)> {
 /// The reasons of the table of numbers, put for the operation at hand where it names several.
 fn reason(number: u8, operation: Option<Operation>) -> &'static str {
     match (number, operation) {
-        (2, _) => "the transaction is signalled: an item it read is changing below it",
+        (2, _) => {
+            "the transaction is signalled: an item it read is changing below it, or has changed"
+        }
         (3, _) => "operation above 6",
         (4, _) => "level above 3",
         (5, _) => "an unused field is not zero",
@@ -93,6 +96,7 @@ fn reason(number: u8, operation: Option<Operation>) -> &'static str {
         (14, _) => "opening: a level byte above 3",
         (15, _) => "write of a blank sheet: the value is 0",
         (16, _) => "opening: the table is no order",
+        (28, _) => "opening: the rule is neither 0 (A) nor 1 (B)",
         _ => "a number that the table does not have",
     }
 }
@@ -120,9 +124,14 @@ pub fn differing_fields(left: (&str, &Reply), right: (&str, &Reply)) -> String {
     differing.join(", ")
 }
 
-/// A house as it was opened, such as `a house with 1 item, at level 0; the order 0<1`.
+/// A house as it was opened, such as `a house with 1 item, at level 0; the order 0<1`. Rule A goes
+/// without saying.
 pub fn house(desk: &Desk) -> String {
-    format!("a house with {}; {}", items(&desk.levels()), desk.order)
+    let rule = match desk.rule {
+        Rule::A => String::new(),
+        rule => format!("; rule {rule}"),
+    };
+    format!("a house with {}; {}{rule}", items(&desk.levels()), desk.order)
 }
 
 pub fn items(levels: &[u8]) -> String {
@@ -136,7 +145,8 @@ pub fn items(levels: &[u8]) -> String {
     }
 }
 
-/// The lock table: items by open transactions with their marks, then the next tickets and the order.
+/// The lock table: items by open transactions with their marks, then the next tickets, the order and the
+/// rule.
 pub fn lock_table(desk: &Desk) -> String {
     let open: Vec<&Place> = desk.places.iter().filter(|place| place.is_taken()).collect();
     let names: Vec<String> = open.iter().map(|place| name(place)).collect();
@@ -163,7 +173,7 @@ pub fn lock_table(desk: &Desk) -> String {
         let next = next.map_or("none left".to_string(), |ticket| format!("#{ticket}"));
         let _ = writeln!(text, "level {level}: next ticket {next}, {taken} of 8 places taken");
     }
-    let _ = writeln!(text, "levels: {}", desk.order);
+    let _ = writeln!(text, "levels: {}; rule {}", desk.order, desk.rule);
     text
 }
 
@@ -293,7 +303,7 @@ mod tests {
             for operation in 0..=255 {
                 let words = reply(&Reply { number, operation, ..Reply::default() });
                 let known = !words.contains("does not have");
-                assert_eq!(known, number <= 16, "{words}");
+                assert_eq!(known, number <= 16 || number == 28, "{words}");
             }
         }
     }

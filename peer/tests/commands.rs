@@ -57,16 +57,33 @@ fn the_peer_agrees_with_itself() {
     assert_says(&["compare", "--random", &own, "30", "--from", "900"], 0, &["compared 30 inputs"]);
     // More than the pipes hold, both ways.
     assert_says(&["compare", &own, "2", "50000"], 0, &[": no difference"]);
+    assert_says(
+        &["compare", "--rules", &own, "30", "200"],
+        0,
+        &["compared 30 inputs, 14 of them under rule B, "],
+    );
+    assert_says(
+        &["quiet", "--rules", &own, "8", "200"],
+        0,
+        &["struck 8 inputs", ": no difference"],
+    );
+    // Another rule gives other bytes.
+    let under_a = script("forgets_the_rule", &format!("'{PEER}' run A"));
+    assert_says(
+        &["compare", "--rules", &under_a, "30", "400"],
+        1,
+        &["input of 'peer gen 3 400 B'"],
+    );
     assert_says(&["converse", &own], 0, &["conversed in 7 scenes"]);
     assert_says(&["talk", "--day", &own], 0, &["the peer's desk agrees with each"]);
 }
 
 /// How many slips there are; `wrong_usage_is_told` sees that none is left out here.
-const SLIPS: usize = 30;
+const SLIPS: usize = 43;
 
 /// Those by which a level notices somebody whom it does not dominate, with what `quiet` says of each:
 /// the level, the request and the fields.
-const NOTICED: [(usize, u8, &str, &str); 10] = [
+const NOTICED: [(usize, u8, &str, &str); 12] = [
     (1, 0, " certifies", "they differ in value (whole list: 1, struck list: 0)"),
     (2, 0, " certifies", "they differ in number (whole list: 1, struck list: 0)"),
     (10, 0, "begin at level 0", "they differ in ticket (whole list: 15, struck list: 1)"),
@@ -77,7 +94,21 @@ const NOTICED: [(usize, u8, &str, &str); 10] = [
     (27, 0, " reads item 5", "they differ in value (whole list: 46, struck list: 0), version"),
     (28, 1, " reads item 2", "they differ in number (whole list: 1, struck list: 0), value"),
     (30, 3, " certifies", "they differ in number (whole list: 1, struck list: 0)"),
+    (40, 0, " commits", "they differ in value (whole list: 1, struck list: 0)"),
+    (41, 0, " commits", "they differ in number (whole list: 1, struck list: 0)"),
 ];
+
+/// Those that show under rule B alone; of these 31 takes one rule for the other.
+const UNDER_B: std::ops::RangeInclusive<usize> = 31..=43;
+
+/// The words that come before the program: whether it is told the rule.
+fn rules_for(slip: usize) -> &'static [&'static str] {
+    if UNDER_B.contains(&slip) {
+        &["--rules"]
+    } else {
+        &[]
+    }
+}
 
 /// Those that open a house where it has to be refused.
 const OPENED: std::ops::RangeInclusive<usize> = 21..=24;
@@ -88,8 +119,9 @@ fn compare_finds_every_slip() {
         let program = format!("{PEER} slip {slip}");
         let wanted = ["the outputs differ", "they differ in", "the house before it"];
         // Nobody stands in a house where the opening is refused.
-        let wanted = if slip < 20 { &wanted } else { &wanted[..1] };
-        assert_says(&["compare", &program, "100", "400"], 1, wanted);
+        let wanted = if (20..=26).contains(&slip) { &wanted[..1] } else { &wanted };
+        let words = [&["compare"], rules_for(slip), &[&program, "100", "400"]].concat();
+        assert_says(&words, 1, wanted);
     }
 }
 
@@ -101,7 +133,9 @@ fn quiet_finds_what_a_level_can_notice() {
              same\nrequest"
         );
         let wanted = ["input of 'peer gen", &struck, request, fields, "the house before it"];
-        assert_says(&["quiet", &format!("{PEER} slip {slip}"), "100", "400"], 1, &wanted);
+        let program = format!("{PEER} slip {slip}");
+        let words = [&["quiet"], rules_for(slip), &[&program, "100", "400"]].concat();
+        assert_says(&words, 1, &wanted);
     }
 }
 
@@ -112,7 +146,8 @@ fn quiet_is_about_what_is_not_dominated_and_not_about_agreement() {
     let is_found = |slip: &usize| is_noticed(slip) || OPENED.contains(slip);
     for slip in (1..=SLIPS).filter(|slip| !is_found(slip)) {
         let program = format!("{PEER} slip {slip}");
-        assert_says(&["quiet", &program, "12", "400"], 0, &["struck 12 inputs", ": no difference"]);
+        let words = [&["quiet"], rules_for(slip), &[&program, "12", "400"]].concat();
+        assert_says(&words, 0, &["struck 12 inputs", ": no difference"]);
     }
     let program = format!("{PEER} slip 6");
     let wanted =
@@ -139,7 +174,10 @@ fn quiet_finds_programs_that_are_no_desk_and_lists_that_try_too_little() {
     assert_says(&["quiet", &script("wants_more", &lines), "1", "20"], 1, &wanted);
     let own = format!("{PEER} run");
     assert_says(&["quiet", &own, "3", "10", "--from", "7"], 0, &["struck 3 inputs"]);
-    let wanted = ["at level 0 the lists never met a done certify of what somebody unseen has read"];
+    let wanted = [
+        "at level 0 the lists never met a done certify, under rule A, of what somebody unseen",
+        "at level 0 the lists never met a done commit, under rule B, of what somebody unseen",
+    ];
     assert_says(&["quiet", &own, "100", "5"], 1, &wanted);
 }
 
@@ -205,7 +243,8 @@ fn bytes_tells_the_line_that_is_no_request() {
 #[test]
 fn maps_agree_with_single_reads() {
     let own = format!("{PEER} map");
-    let wanted = ["compared 120 maps", ": no difference", "maps with a lock of the map seen"];
+    let wanted =
+        ["compared 120 maps", ": no difference", "maps with rule B, and a lock of the map seen"];
     assert_says(&["maps", &own, "120"], 0, &wanted);
     assert_says(&["maps", &own, "3", "--from", "900"], 0, &["compared 3 maps"]);
     let case = peer(&["gen", "--map", "5"]).stdout;
@@ -226,12 +265,16 @@ fn maps_finds_every_slip() {
         ("9", "the map is the same, but not what it left in the house"),
         ("10", "the openings differ\n  the peer:    13\n  the program: 0"),
         ("11", "the openings differ\n  the peer:    13\n  the program: 16"),
+        ("12", "the replies before the map differ"),
+        ("13", "the openings differ\n  the peer:    28\n  the program: 0"),
+        ("14", "the openings differ\n  the peer:    28\n  the program: 0"),
+        ("15", "the openings differ\n  the peer:    28\n  the program: 13"),
     ];
     for (slip, words) in wanted {
         let program = format!("{PEER} map --slip {slip}");
         assert_says(&["maps", &program, "100"], 1, &["input of 'peer gen --map", words]);
     }
-    assert_says(&["map", "--slip", "12"], 2, &["there is no slip 12: K is 1 to 11"]);
+    assert_says(&["map", "--slip", "16"], 2, &["there is no slip 16: K is 1 to 15"]);
 }
 
 #[test]
@@ -244,8 +287,8 @@ fn maps_finds_programs_that_are_no_map_call() {
     assert_says(&["map"], 2, &["no case of a map: the input ends too early"]);
     // A case whose house has no items: the opening is refused, and nothing more is asked.
     let left = [&[13, 0, 0, 0, 0, 0, 0, 0, 0][..], &[0xa5; 16]].concat();
-    assert_eq!(peer_with_input(&["map"], &[0; 13]).stdout, left);
-    assert_eq!(peer_with_input(&["map"], &[0; 12]).status.code(), Some(2));
+    assert_eq!(peer_with_input(&["map"], &[0; 14]).stdout, left);
+    assert_eq!(peer_with_input(&["map"], &[0; 13]).status.code(), Some(2));
 }
 
 #[test]
@@ -276,6 +319,19 @@ fn converse_and_talk_find_a_slip() {
     let output = peer_with_input(&["talk", &program], lines);
     assert_eq!(output.status.code(), Some(1));
     assert!(String::from_utf8_lossy(&output.stdout).contains("DIFFERS"));
+}
+
+/// A program takes rule A; under B the peer's own desk answers, also where the program has a slip.
+#[test]
+fn talk_says_who_answers_under_rule_b() {
+    let lines = b"open 0 1 rule B\nbegin 0\nwrite 0 #1 item 0 = 7\ncertify 0 #1\nopen 0\nbegin 0\n";
+    let wanted = [
+        "; rule B\n  the wire tells no rule: here the peer's own desk answers\n",
+        "\n1 requests answered; the peer's desk agrees with each\n",
+        "\n3 requests under rule B answered by the peer's desk alone\n",
+    ];
+    assert_says_of(lines, &["talk", &format!("{PEER} run")], 0, &wanted);
+    assert_says_of(lines, &["talk", &format!("{PEER} slip 1")], 0, &wanted);
 }
 
 #[test]
@@ -332,6 +388,10 @@ fn wrong_usage_is_told() {
     assert_says(&["dance"], 2, &["no command 'dance'"]);
     assert_says(&["compare", "x"], 2, &["wrong usage of compare", "compare PROGRAM SEEDS N"]);
     assert_says(&["gen", "x", "1"], 2, &["SEED has to be a number"]);
+    assert_says(&["gen", "1", "1", "C"], 2, &["RULE has to be A or B, not 'C'"]);
+    assert_says(&["run", "b"], 2, &["RULE has to be A or B, not 'b'"]);
+    assert_says(&["slip", "1", "B", "2"], 2, &["RULE is the last word, and '2' follows it"]);
+    assert_says(&["compare", "--rules", "--random", "x", "1"], 2, &["wrong usage of compare"]);
     assert_says(&["gen", "1", "99999999999"], 2, &["N is at most"]);
     assert_says(&["cover", "0", "400"], 2, &["SEEDS has to be at least 1"]);
     assert_says(&["maps", "x"], 2, &["wrong usage of maps", "maps PROGRAM COUNT"]);

@@ -14,18 +14,20 @@ use judge::judge;
 use parts::active;
 use parts::certified;
 use parts::delayed_by;
+use parts::gives_at;
 use parts::left_free;
 use parts::next_ticket;
 use parts::reply_to;
 use ruling::Change;
 use ruling::Ruling;
 use ruling::View;
-use sweeps::certify_cells;
 use sweeps::clear_cells;
 use sweeps::commit_items;
+use sweeps::convert_cells;
 use sweeps::drop_pending;
 use sweeps::has_claimed;
 use sweeps::mark_cell;
+use sweeps::signal_readers;
 
 // Only what is granted changes the house.
 fn change_of(ruling: Ruling) -> Change
@@ -96,8 +98,10 @@ pub fn turn_in_place(h: House, requests: &[u8], replies: &mut [u8], most: usize)
                 h.pending[i] = value;
             }
             Change::Certify(me) => {
+                let gives = gives_at(h.rule, 3);
                 let order = h.order;
-                certify_cells(&mut h.cells, &order, me);
+                signal_readers(&mut h.cells, &order, gives, me);
+                convert_cells(&mut h.cells, me);
                 let place = h.places[me];
                 let seat = certified(place);
                 h.places[me] = seat;
@@ -114,6 +118,9 @@ pub fn turn_in_place(h: House, requests: &[u8], replies: &mut [u8], most: usize)
                     let dropped = drop_pending(pending, &h.cells, me);
                     h.pending = dropped;
                 }
+                let gives = gives_at(h.rule, 4);
+                let order = h.order;
+                signal_readers(&mut h.cells, &order, commits & gives, me);
                 clear_cells(&mut h.cells, me);
                 let left = left_free();
                 h.places[me] = left;

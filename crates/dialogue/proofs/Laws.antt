@@ -10,6 +10,7 @@ use lib.ListN.{length, take, drop, length-take, length-drop}
 use lib.Dec.{eqb, ltb, leb}
 use borrow.Author.Tests.{leb-true, leb-false, ltb-false, ne-eqb}
 use Rattle.house.specs.declared.Opening.{Opening}
+use Rattle.house.specs.declared.Rule.the-variants.{A}
 use Rattle.house.specs.Opening.{wrongCount, wrongLength, wrongTable, openVerdict, opening}
 use Rattle.house.proofs.Tests.{is, or-left, or-right, or-false, not-of}
 use Rattle.dialogue.specs.declared.Fed.{Fed}
@@ -17,11 +18,11 @@ use Rattle.dialogue.specs.declared.Stage.the-variants.{Refused}
 use Rattle.dialogue.specs.Dialogue.{announced, header, levels, table, openingOf, decided, drops, serves, opens}
 
 -- no levels are refused, and with them whatever is of a wrong length
-pub no-levels : opening [] [] .number ≡ 13
+pub no-levels : opening [] [] A .number ≡ 13
 unfolding opening openVerdict wrongCount
 no-levels = refl
 
-misfit : (l t : List ℕ) → (wrongLength l || wrongTable t) ≡ true → opening l t ≡ opening [] []
+misfit : (l t : List ℕ) → (wrongLength l || wrongTable t) ≡ true → opening l t A ≡ opening [] [] A
 unfolding opening openVerdict wrongCount
 misfit l t e = rw e
 
@@ -29,14 +30,14 @@ misfit l t e = rw e
 pub came : (b : List ℕ) → (header b ≤ length b) ⊎ (length b < header b)
 came b = elim (is (leb (header b) (length b))) [ inl y ↦ inl (leb-true _ _ y) | inr n ↦ inr (leb-false _ _ n) ]
 
-pub cut-short : (b : List ℕ) → length b < header b → openingOf b ≡ opening [] []
+pub cut-short : (b : List ℕ) → length b < header b → openingOf b ≡ opening [] [] A
 unfolding wrongTable
 cut-short b s =
     let rest = drop (announced b + 1) b in
     misfit (levels b) (table b) (or-right (wrongLength (levels b)) _ (not-of _ (ne-eqb (length (table b)) 16 (λ e. omega (arith, length-take 16 rest, length-drop (announced b + 1) b)))))
 
 -- and one whose number is wrongCount, whether it came or not
-pub none-hoped : (b : List ℕ) → wrongCount (announced b) ≡ true → openingOf b ≡ opening [] []
+pub none-hoped : (b : List ℕ) → wrongCount (announced b) ≡ true → openingOf b ≡ opening [] [] A
 unfolding wrongCount
 none-hoped b y =
     elim (came b) [
@@ -63,10 +64,10 @@ undecided b n =
 
 -- of the number n that came first, what is opened, and what is made of the bytes past it
 module _ (b : List ℕ) (n : ℕ) (first : n ≡ announced b) (o : Opening) where
-  pub front-short : length b < n + 17 → o ≡ opening [] [] → o ≡ openingOf b
+  pub front-short : length b < n + 17 → o ≡ opening [] [] A → o ≡ openingOf b
   front-short s e = e ∙ sym (cut-short b (rw first at s))
 
-  pub front-whole : o ≡ opening (take (n + 1 - 1) (drop 1 b)) (take (n + 17 - (n + 1)) (drop (n + 1) b)) → o ≡ openingOf b
+  pub front-whole : o ≡ opening (take (n + 1 - 1) (drop 1 b)) (take (n + 17 - (n + 1)) (drop (n + 1) b)) A → o ≡ openingOf b
   front-whole e =
       let p : n + 1 - 1 ≡ n = omega arith in
       let q : n + 17 - (n + 1) ≡ 16 = omega arith in

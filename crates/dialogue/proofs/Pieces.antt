@@ -11,6 +11,7 @@ use lib.Seq.{length-take-le, getD-take, take-at, drop-at, drop-drop, drop-append
 use lib.Dec.{eqb, ltb, leb}
 use borrow.Author.Tests.{eqb-true, ltb-true, leb-true}
 use Rattle.house.specs.declared.House.{House}
+use Rattle.house.specs.declared.Rule.the-variants.{A}
 use Rattle.house.specs.Opening.{wrongCount, opening}
 use Rattle.house.specs.Run.{finally, replies}
 use Rattle.house.proofs.Runs.{finally-append}
@@ -133,7 +134,7 @@ Unfinished s b = atStage (s .stage) (decided b ≡ false) (length b < 12) (Unit 
 
 -- who waits has the house of no items
 unfoldable pub Fresh : Dialogue → Type 0
-Fresh s = atStage (s .stage) (s .house ≡ opening [] [] .house) (Unit {0}) (Unit {0})
+Fresh s = atStage (s .stage) (s .house ≡ opening [] [] A .house) (Unit {0}) (Unit {0})
 
 pub expected-last : (s : Dialogue) (b : List ℕ) → Fresh s → Unfinished s b → (farewell (ended (s .stage)), s .house) ≡ expected s b
 unfolding expected Fresh Unfinished programmed runOf wired replies finally requests

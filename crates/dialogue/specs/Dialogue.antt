@@ -11,6 +11,7 @@ use lib.ListN.{length, getD, take, drop}
 use lib.Dec.{eqb, ltb, leb}
 use Rattle.house.specs.declared.House.{House}
 use Rattle.house.specs.declared.Opening.{Opening}
+use Rattle.house.specs.declared.Rule.the-variants.{A}
 use Rattle.house.specs.Opening.{wrongCount, opening}
 use Rattle.wire.specs.Wire.{replyBytes}
 use Rattle.desk.specs.Turn.{turned, answered}
@@ -38,9 +39,9 @@ levels bytes = take (announced bytes) (drop 1 bytes)
 abbrev pub table : List ℕ → List ℕ
 table bytes = take 16 (drop (announced bytes + 1) bytes)
 
--- what they open
+-- what they open: "the program .. take[s] A" (CR 7)
 abbrev pub openingOf : List ℕ → Opening
-openingOf bytes = opening (levels bytes) (table bytes)
+openingOf bytes = opening (levels bytes) (table bytes) A
 
 -- all of the opening came; or n did, and is refused whatever follows
 unfoldable pub decided : List ℕ → Bool
@@ -59,7 +60,7 @@ atStage (Refused n) waiting opened refused = refused
 
 -- nothing came yet
 unfoldable pub started : Dialogue
-started = record { stage = Waiting; house = opening [] [] .house }
+started = record { stage = Waiting; house = opening [] [] A .house }
 
 -- "or input ends before the levels do (13)", or before the table does
 abbrev pub ended : Stage → Stage

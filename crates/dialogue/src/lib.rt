@@ -10,6 +10,7 @@ use desk::turn;
 use house::House;
 use house::Opening;
 use house::Reply;
+use house::Rule;
 use opening::open;
 use wire::encode;
 
@@ -42,7 +43,7 @@ pub struct Heard {
 pub fn start() -> Dialogue
     ensures { λ r. ⌜ r ≡ started ⌝ }
 {
-    let opening = open(b"", b"");
+    let opening = open(b"", b"", Rule::A);
     let house = opening.house;
     Dialogue {
         stage: Stage::Waiting,
@@ -105,9 +106,9 @@ fn open_front(bytes: &[u8]) -> Opening
     let past = n + 1;
     let end = n + 17;
     if bytes.len() < end {
-        return open(b"", b"");
+        return open(b"", b"", Rule::A);
     }
-    open(&bytes[1..past], &bytes[past..end])
+    open(&bytes[1..past], &bytes[past..end], Rule::A)
 }
 
 // The requests past the first k bytes.

@@ -1,4 +1,4 @@
--- M1 to M12 hold, by computation: both sides of the statement are worked out and compared.
+-- M1 to M12 and their companions hold, by computation: both sides of the statement are worked out and compared.
 -- Assumes nothing.
 use mathlib.Core.Path.{refl}
 use Rattle.house.proofs.Unfolding.{rules}

@@ -7,13 +7,15 @@ use mathlib.Core.List.{List, [], _∷_, _++_, map}
 use lib.ListN.{replicate}
 use Rattle.house.specs.declared.Reply.{Reply}
 use Rattle.house.specs.declared.Request.{Request}
+use Rattle.house.specs.declared.Rule.{Rule}
+use Rattle.house.specs.declared.Rule.the-variants.{A, B}
 use Rattle.house.specs.Order.{oldChain, diamond}
 use Rattle.house.specs.Opening.{opening}
 use Rattle.house.specs.Run.{Event}
 use Rattle.examples.specs.Words.{begun, reads, writes, certifies, asks, says, Example, given, expected}
 
 abbrev row : List Event → Request → Reply → Example
-row before request reply = record { levels = 0 ∷ 1 ∷ 2 ∷ 3 ∷ []; table = diamond; before = begun 0 1 ∷ begun 1 1 ∷ begun 2 1 ∷ begun 3 1 ∷ before; request = request; reply = reply; places = [] }
+row before request reply = record { levels = 0 ∷ 1 ∷ 2 ∷ 3 ∷ []; table = diamond; rule = A; before = begun 0 1 ∷ begun 1 1 ∷ begun 2 1 ∷ begun 3 1 ∷ before; request = request; reply = reply; places = [] }
 
 -- the subjects do not read each other's marks: 8
 abbrev geography : Example
@@ -41,19 +43,20 @@ marked =
 unfoldable pub subjects : List Example
 subjects = geography ∷ history ∷ drawn ∷ marked ∷ []
 
--- Openings: levels, a table, the number, and the order that the house then holds
+-- Openings, each under rule B: levels, a table, the number, and the order and the rule that the house then holds
 
 pub record Opened : Type 0 where
   pub levels : List ℕ
   pub table : List ℕ
   pub number : ℕ
   pub order : List ℕ
+  pub rule : Rule
 
 abbrev opens : List ℕ → List ℕ → Opened
-opens levels table = record { levels = levels; table = table; number = 0; order = table }
+opens levels table = record { levels = levels; table = table; number = 0; order = table; rule = B }
 
 abbrev refused : List ℕ → List ℕ → ℕ → Opened
-refused levels table n = record { levels = levels; table = table; number = n; order = oldChain }
+refused levels table n = record { levels = levels; table = table; number = n; order = oldChain; rule = A }
 
 -- four levels with nothing above anything, and the chain with level 0 at its top
 abbrev apart : List ℕ
@@ -103,4 +106,4 @@ openings =
 -- THE STATEMENT: what the desk gives is what the tables say, in every row
 pub record SideBySide : Type 0 where
   pub answered : map given subjects ≡ map expected subjects
-  pub opened : map {B = ℕ × List ℕ} (λ x. let o = opening (x .levels) (x .table) in (o .number, o .house .order)) openings ≡ map {B = ℕ × List ℕ} (λ x. (x .number, x .order)) openings
+  pub opened : map {B = ℕ × List ℕ × Rule} (λ x. let o = opening (x .levels) (x .table) B in (o .number, o .house .order, o .house .rule)) openings ≡ map {B = ℕ × List ℕ × Rule} (λ x. (x .number, x .order, x .rule)) openings

@@ -1,6 +1,7 @@
 -- Document 01's marked examples, M1 to M12, as one table under one statement.
 -- "Items 0 and 1 at level 0, item 2 at level 2. Each starts fresh, with level-0 tickets 1 and 2 and level-2 ticket 1 open
--- unless said." The levels are in the order of "the old chain".
+-- unless said." The levels are in the order of "the old chain", and the rule is A. M11 and M12 are rule A's; beside them stand their
+-- companions under rule B (CR 7).
 -- Assumes nothing.
 use Prim.Native.Nat.{ℕ}
 use mathlib.Core.Path.{_≡_}
@@ -8,17 +9,25 @@ use mathlib.Core.List.{List, [], _∷_, _++_, map}
 use Rattle.house.specs.declared.Place.{Place}
 use Rattle.house.specs.declared.Reply.{Reply}
 use Rattle.house.specs.declared.Request.{Request}
+use Rattle.house.specs.declared.Rule.{Rule}
+use Rattle.house.specs.declared.Rule.the-variants.{A, B}
 use Rattle.house.specs.declared.Standing.the-variants.{Active}
 use Rattle.house.specs.Order.{oldChain}
 use Rattle.house.specs.Run.{Event}
 use Rattle.examples.specs.Words.{begins, begun, reads, writes, certifies, commits, aborts, asks, readsWith, says, Example, talk, given, expected}
 
--- a row of the table; one that also says which places the house then shows
+-- a row of the table under a rule, which also says which places the house then shows; under A; and where it says none
+abbrev under : Rule → List Event → Request → Reply → List (ℕ × Place) → Example
+under rule before request reply places = record { levels = 0 ∷ 0 ∷ 2 ∷ []; table = oldChain; rule = rule; before = before; request = request; reply = reply; places = places }
+
 abbrev shows : List Event → Request → Reply → List (ℕ × Place) → Example
-shows before request reply places = record { levels = 0 ∷ 0 ∷ 2 ∷ []; table = oldChain; before = before; request = request; reply = reply; places = places }
+shows = under A
 
 abbrev row : List Event → Request → Reply → Example
-row before request reply = shows before request reply []
+row before request reply = under A before request reply []
+
+abbrev rowB : List Event → Request → Reply → Example
+rowB before request reply = under B before request reply []
 
 abbrev active : ℕ → ℕ → ℕ × Place
 active p t = (p, record { standing = Active; ticket = t })
@@ -105,10 +114,28 @@ m11 = row (talk m11-signalled) (asks 2 1) (says 0 6 0 1 1 0)
 abbrev m12 : Example
 m12 = row (talk m11 ++ (aborts 0 1, says 0 5 0 1 0 0) ∷ []) (certifies 2 1) (says 2 3 0 1 0 0)
 
+-- M11 under B: the certify signals nobody, and the commit does: level 2's certify is then 2, and its ask: item 0, value 1
+abbrev b11-certify : Example
+b11-certify = rowB (talk m11-certify) (asks 2 1) (says 0 6 0 1 0 0)
+
+abbrev b11-signalled : Example
+b11-signalled = rowB (talk b11-certify ++ (commits 0 1, says 0 4 0 1 0 0) ∷ []) (certifies 2 1) (says 2 3 0 1 0 0)
+
+abbrev b11 : Example
+b11 = rowB (talk b11-signalled) (asks 2 1) (says 0 6 0 1 1 0)
+
+-- "Under B a higher reader may commit between the certify and the commit" (CR 7)
+abbrev b11-between : Example
+b11-between = rowB (talk b11-certify ++ (certifies 2 1, says 0 3 0 1 0 0) ∷ (commits 2 1, says 0 4 0 1 0 0) ∷ []) (commits 0 1) (says 0 4 0 1 0 0)
+
+-- M12 under B: the level-0 writer aborts, and level 2 is left alone
+abbrev b12 : Example
+b12 = rowB (talk b11-certify ++ (aborts 0 1, says 0 5 0 1 0 0) ∷ (asks 2 1, says 0 6 0 1 0 0) ∷ []) (certifies 2 1) (says 0 3 0 1 0 0)
+
 -- every reply on the way of a row is held to the rules with it, so each example stands here once, with its last row
 unfoldable pub table : List Example
-table = m1 ∷ m2 ∷ m3 ∷ m4 ∷ m5 ∷ m6-eighth ∷ m6-ninth ∷ m6 ∷ m7 ∷ m8 ∷ m9 ∷ m10 ∷ m11 ∷ m12 ∷ []
+table = m1 ∷ m2 ∷ m3 ∷ m4 ∷ m5 ∷ m6-eighth ∷ m6-ninth ∷ m6 ∷ m7 ∷ m8 ∷ m9 ∷ m10 ∷ m11 ∷ m12 ∷ b11 ∷ b11-between ∷ b12 ∷ []
 
--- what the desk gives is what document 01 says, in every row
+-- what the desk gives is what the documents say, in every row
 unfoldable pub Marked : Type 0
 Marked = map given table ≡ map expected table

@@ -5,6 +5,7 @@ use mathlib.Core.List.{List, [], _∷_, _++_, map}
 use Rattle.house.specs.declared.Place.{Place}
 use Rattle.house.specs.declared.Reply.{Reply}
 use Rattle.house.specs.declared.Request.{Request}
+use Rattle.house.specs.declared.Rule.{Rule}
 use Rattle.house.specs.House.{placeAt}
 use Rattle.house.specs.Rules.{begin, read, write, certify, commit, abort, ask}
 use Rattle.house.specs.Opening.{opening}
@@ -48,11 +49,12 @@ says number operation item ticket value version = record { number = number; oper
 abbrev pub begun : ℕ → ℕ → Event
 begun l t = (begins l, says 0 0 0 t 0 0)
 
--- An example: from a house opened with these levels and this table, after `before` (each request with the reply that it gets), the request
--- gets the reply, and the house then shows these places
+-- An example: from a house opened with these levels and this table under this rule, after `before` (each request with the reply that it
+-- gets), the request gets the reply, and the house then shows these places
 pub record Example : Type 0 where
   pub levels : List ℕ
   pub table : List ℕ
+  pub rule : Rule
   pub before : List Event
   pub request : Request
   pub reply : Reply
@@ -69,7 +71,7 @@ Report = ℕ × List Reply × List Place
 
 unfoldable pub given : Example → Report
 given x =
-    let o = opening (x .levels) (x .table) in
+    let o = opening (x .levels) (x .table) (x .rule) in
     let asked = map (λ e. e .0) (talk x) in
     let places = finally (o .house) asked .places in
     (o .number, replies (o .house) asked, map (λ s. placeAt places (s .0)) (x .places))

@@ -83,3 +83,11 @@ pub ruleset followed = (past-equal, past-unequal, past-key, past-least, past-les
 -- what a call answered is what it promises
 pub answered : {A : Type 0} {b t v : A} → b ≡ t → b ≡ v → t ≡ v
 answered p q = sym p ∙ q
+
+-- where two branches have met: a part made anew, or left
+module _ {A B : Type 0} (f : A → B) where
+  pub went : (g : B) (b : Bool) (x y z : A) → b ≡ true → z ≡ x → g ≡ f z → g ≡ f (cond b x y)
+  went g b x y z e p q = rw (e, ← p) q
+
+  pub passed : (g : B) (b : Bool) (x y : A) → b ≡ false → g ≡ f y → g ≡ f (cond b x y)
+  passed g b x y e q = rw e q

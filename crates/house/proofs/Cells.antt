@@ -8,7 +8,7 @@ use mathlib.Core.Logic.{_≢_, inl, inr}
 use mathlib.Core.Bool.{Bool, true, false, _&&_, _||_, not}
 use mathlib.Core.List.{List}
 use lib.ListN.{length, getD, length-set}
-use lib.Seq.{getD-set-same, getD-set-other}
+use lib.Seq.{getD-set-same, getD-set-other, ext-getD}
 use lib.Dec.{eqb}
 use borrow.Author.Tests.{eqb-true, eqb-false, eq-eqb, ne-eqb}
 use Rattle.house.specs.declared.Mark.{Mark}
@@ -132,6 +132,13 @@ module _ (cells : List ℕ) (long : length cells ≡ 2048) where
   pub length-mapCells : (f : ℕ → ℕ → ℕ → ℕ) → length (mapCells f cells) ≡ 2048
   unfolding mapCells
   length-mapCells f = simp length-mapFrom long
+
+-- two houses' cells are the same where each cell is
+pub cells-same : (cells others : List ℕ) → length cells ≡ 2048 → length others ≡ 2048 → ((p i : ℕ) → p < 32 → i < 64 → cellAt cells p i ≡ cellAt others p i) → cells ≡ others
+unfolding cellAt
+cells-same cells others long long′ e =
+    ext-getD 0 cells others (long ∙ sym long′)
+    (λ n b. let at : n / 64 * 64 + n % 64 ≡ n = omega arith in rw at at (e (n / 64) (n % 64) (omega arith) (omega arith)))
 
 pub cell-elsewhere : (m : Mark) (cells : List ℕ) (p i q j : ℕ) → i < 64 → j < 64 → (q ≡ p → j ≢ i) → cellAt (withMark m cells p i) q j ≡ cellAt cells q j
 unfolding cellAt withMark

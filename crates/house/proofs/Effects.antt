@@ -6,19 +6,21 @@ use Prim.Native.Nat.{ℕ, _<_}
 use native.Mathlib.Omega.{arith}
 use mathlib.Core.Path.{_≡_, refl, ap}
 use mathlib.Core.Logic.{_≢_, inl, inr}
+use mathlib.Core.Bool.{false}
 use mathlib.Core.List.{List}
 use lib.ListN.{length, set, length-set}
+use lib.Dec.{eqb}
 use lib.Seq.{getD-set-same, getD-set-other}
 use Rattle.house.specs.declared.House.{House}
 use Rattle.house.specs.declared.Item.{Item}
 use Rattle.house.specs.declared.Mark.the-variants.{Read, Write, Certify}
 use Rattle.house.specs.declared.Place.{Place}
 use Rattle.house.specs.declared.Standing.the-variants.{Active, Certified}
-use Rattle.house.specs.Cell.{cellAt, holds}
+use Rattle.house.specs.Cell.{cellAt, mapCells, holds}
 use Rattle.house.specs.House.{fixed, Sizes, blank, vacant, itemAt, pendingAt, placeAt, nextAt}
-use Rattle.house.specs.Rules.{ticketAfter, begun, readBy, writtenBy, certifiedCell, certifiedBy, clearedCell, droppedPending, left, committedItem, committedBy, abortedBy}
+use Rattle.house.specs.Rules.{ticketAfter, begun, readBy, certify, commit, writtenBy, signalsAt, signalledCell, signalled, convertedCell, certifiedBy, clearedCell, droppedPending, left, committedItem, committedBy, abortedBy}
 use Rattle.house.proofs.Tests.{is}
-use Rattle.house.proofs.Lists.{length-mapFrom, getD-mapFrom, map-mapFrom-same}
+use Rattle.house.proofs.Lists.{length-mapFrom, getD-mapFrom, mapFrom-kept, map-mapFrom-same}
 use Rattle.house.proofs.Cells.{cell-elsewhere, cell-mapped, length-withMark, length-mapCells}
 
 -- a list with one element set, read there and elsewhere
@@ -56,39 +58,54 @@ module _ {h : House} (z : Sizes h) where
   unfolding writtenBy
   written-pending me i v a = let n = z .pending in getD-set-same (h .pending) i v 0 (omega arith)
 
+  -- Signals
+  pub signalled-long : (n me : ℕ) → length (signalled n h me) ≡ 2048
+  unfolding signalled
+  signalled-long n me = length-mapCells (h .cells) (z .cells) (signalledCell _ (h .order) (h .cells) me)
+
+  pub signalled-cell : (n me p i : ℕ) → p < 32 → i < 64 → cellAt (signalled n h me) p i ≡ signalledCell (eqb (signalsAt (h .rule)) n) (h .order) (h .cells) me p i (cellAt (h .cells) p i)
+  unfolding signalled
+  signalled-cell n me p i b a = cell-mapped (h .cells) (z .cells) (signalledCell _ (h .order) (h .cells) me) p i b a
+
+  -- an operation that gives none
+  pub signalled-none : (n me : ℕ) → eqb (signalsAt (h .rule)) n ≡ false → signalled n h me ≡ h .cells
+  unfolding signalled mapCells signalledCell
+  signalled-none n me e = mapFrom-kept 0 _ (h .cells) (λ k c b. rw e)
+
   -- Certify
   pub certified-sizes : (me : ℕ) → Sizes (certifiedBy h me)
   unfolding certifiedBy
-  certified-sizes me = record { order = z .order; items = z .items; pending = z .pending; places = simp length-set (z .places); next = z .next; cells = length-mapCells (h .cells) (z .cells) (certifiedCell (h .order) (h .cells) me) }
+  certified-sizes me = record { order = z .order; items = z .items; pending = z .pending; places = simp length-set (z .places); next = z .next; cells = length-mapCells (signalled certify h me) (signalled-long certify me) (convertedCell me) }
 
   pub certified-place : (me : ℕ) → me < 32 → placeAt (certifiedBy h me .places) me ≡ record { standing = Certified; ticket = placeAt (h .places) me .ticket }
   unfolding certifiedBy
   certified-place me b = place-set (h .places) (z .places) me _ b
 
-  pub certified-cell : (me p i : ℕ) → p < 32 → i < 64 → cellAt (certifiedBy h me .cells) p i ≡ certifiedCell (h .order) (h .cells) me p i (cellAt (h .cells) p i)
+  pub certified-cell : (me p i : ℕ) → p < 32 → i < 64 → cellAt (certifiedBy h me .cells) p i ≡ convertedCell me p i (cellAt (signalled certify h me) p i)
   unfolding certifiedBy
-  certified-cell me p i b a = cell-mapped (h .cells) (z .cells) (certifiedCell (h .order) (h .cells) me) p i b a
+  certified-cell me p i b a = cell-mapped (signalled certify h me) (signalled-long certify me) (convertedCell me) p i b a
 
   -- Commit and abort
-  pub left-sizes : (me : ℕ) → Sizes (left h me)
-  unfolding left
-  left-sizes me = record { order = z .order; items = z .items; pending = simp length-mapFrom (z .pending); places = simp length-set (z .places); next = z .next; cells = length-mapCells (h .cells) (z .cells) (clearedCell me) }
+  module _ (cells : List ℕ) (me : ℕ) where
+    pub left-sizes : length cells ≡ 2048 → Sizes (left cells h me)
+    unfolding left
+    left-sizes long = record { order = z .order; items = z .items; pending = simp length-mapFrom (z .pending); places = simp length-set (z .places); next = z .next; cells = length-mapCells cells long (clearedCell me) }
 
-  pub left-pending : (me i : ℕ) → i < 64 → pendingAt (left h me .pending) i ≡ droppedPending (h .cells) me i (pendingAt (h .pending) i)
-  unfolding left
-  left-pending me i a = let n = z .pending in getD-mapFrom (droppedPending (h .cells) me) (h .pending) i 0 (omega arith)
+    pub left-pending : (i : ℕ) → i < 64 → pendingAt (left cells h me .pending) i ≡ droppedPending (h .cells) me i (pendingAt (h .pending) i)
+    unfolding left
+    left-pending i a = let n = z .pending in getD-mapFrom (droppedPending (h .cells) me) (h .pending) i 0 (omega arith)
 
-  pub left-place : (me : ℕ) → me < 32 → placeAt (left h me .places) me ≡ vacant
-  unfolding left
-  left-place me b = place-set (h .places) (z .places) me _ b
+    pub left-place : me < 32 → placeAt (left cells h me .places) me ≡ vacant
+    unfolding left
+    left-place b = place-set (h .places) (z .places) me _ b
 
-  pub left-cell : (me p i : ℕ) → p < 32 → i < 64 → cellAt (left h me .cells) p i ≡ clearedCell me p i (cellAt (h .cells) p i)
-  unfolding left
-  left-cell me p i b a = cell-mapped (h .cells) (z .cells) (clearedCell me) p i b a
+    pub left-cell : length cells ≡ 2048 → (p i : ℕ) → p < 32 → i < 64 → cellAt (left cells h me .cells) p i ≡ clearedCell me p i (cellAt cells p i)
+    unfolding left
+    left-cell long p i b a = cell-mapped cells long (clearedCell me) p i b a
 
   pub committed-sizes : (me : ℕ) → Sizes (committedBy h me)
   committed-sizes me =
-      let y = left-sizes me in
+      let y = left-sizes (signalled commit h me) me (signalled-long commit me) in
       record { order = y .order; items = simp length-mapFrom (z .items); pending = y .pending; places = y .places; next = y .next; cells = y .cells }
 
   pub committed-item : (me i : ℕ) → i < 64 → itemAt (committedBy h me .items) i ≡ committedItem (h .cells) (h .pending) me i (itemAt (h .items) i)
@@ -121,9 +138,9 @@ module _ (h : House) where
   unfolding certifiedBy
   certified-place-other me p n = place-other (h .places) me p _ n
 
-  pub left-place-other : (me p : ℕ) → p ≢ me → placeAt (left h me .places) p ≡ placeAt (h .places) p
+  pub left-place-other : (cells : List ℕ) (me p : ℕ) → p ≢ me → placeAt (left cells h me .places) p ≡ placeAt (h .places) p
   unfolding left
-  left-place-other me p n = place-other (h .places) me p _ n
+  left-place-other cells me p n = place-other (h .places) me p _ n
 
 -- What an opening fixed stays
 
@@ -150,7 +167,7 @@ module _ (h : House) where
 
   pub committed-fixed : (me : ℕ) → fixed (committedBy h me) ≡ fixed h
   unfolding fixed left
-  committed-fixed me = ap (λ l. (h .count, h .order, l)) (map-mapFrom-same (λ x. x .level) 0 (committedItem (h .cells) (h .pending) me) (h .items) (committed-level me))
+  committed-fixed me = ap (λ l. (h .count, h .order, h .rule, l)) (map-mapFrom-same (λ x. x .level) 0 (committedItem (h .cells) (h .pending) me) (h .items) (committed-level me))
 
   pub aborted-fixed : (me : ℕ) → fixed (abortedBy h me) ≡ fixed h
   unfolding fixed left

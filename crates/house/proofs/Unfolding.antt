@@ -6,7 +6,7 @@ use Rattle.house.specs.Cell.{has, marked, unmarked, cellAt, withMark, ma
 use Rattle.house.specs.Matrix.{readLock}
 use Rattle.house.specs.House.{dominates, above, fixed, freeAt, hasTicket, seek, vacancy}
 use Rattle.house.specs.Order.{oldChain, diamond, large, loose, tied, broken, wrongAt, disordered}
-use Rattle.house.specs.Rules.{noOperation, noLevel, unusedSet, unknown, noItem, forbidden, blankSheet, stopped, untimely, wornOut, crowded, ticketless, anotherClaims, peerReads, hinders, wants, holderOn, conflict, delayed, refusals, checks, verdict, ticketAfter, grown, begun, readBy, readAnswer, writtenBy, signalledCell, convertedCell, certifiedCell, certifiedBy, droppedPending, clearedCell, left, committedItem, askAnswer, served, performed, unserved, stepped}
+use Rattle.house.specs.Rules.{noOperation, noLevel, unusedSet, unknown, noItem, forbidden, blankSheet, stopped, untimely, wornOut, crowded, ticketless, anotherClaims, peerReads, hinders, wants, holderOn, conflict, delayed, refusals, checks, verdict, ticketAfter, grown, begun, readBy, readAnswer, writtenBy, wrote, signalledCell, signalled, convertedCell, certifiedBy, droppedPending, clearedCell, left, committedItem, askAnswer, served, performed, unserved, stepped}
 use Rattle.house.specs.Opening.{wrongCount, highAt, wrongLevel, wrongTable, openVerdict, rowAt, rows, opened, opening}
 use Rattle.house.specs.Run.{finally, replies, trace}
 
@@ -22,7 +22,7 @@ parts = tt
 
 -- what is done of each request, and its answer
 effects : Unit {0}
-unfolding ticketAfter grown begun readBy readAnswer writtenBy signalledCell convertedCell certifiedCell certifiedBy droppedPending clearedCell left committedItem askAnswer served performed unserved stepped
+unfolding ticketAfter grown begun readBy readAnswer writtenBy wrote signalledCell signalled convertedCell certifiedBy droppedPending clearedCell left committedItem askAnswer served performed unserved stepped
 effects = tt
 
 openings : Unit {0}

@@ -10,6 +10,7 @@ use Rattle.house.specs.declared.Found.{Found}
 use Rattle.house.specs.declared.House.{House}
 use Rattle.house.specs.declared.Item.{Item}
 use Rattle.house.specs.declared.Place.{Place}
+use Rattle.house.specs.declared.Rule.{Rule}
 use Rattle.house.specs.declared.Standing.{Standing}
 use Rattle.house.specs.declared.Standing.the-variants.{Free, Active, Certified}
 use Rattle.house.specs.Search.{find, findRound}
@@ -50,23 +51,23 @@ nextAt next l = getD next l 0
 -- a house with one part changed
 
 abbrev pub withItems : House → List Item → House
-withItems h items = record { count = h .count; order = h .order; items = items; pending = h .pending; places = h .places; next = h .next; cells = h .cells }
+withItems h items = record { count = h .count; order = h .order; rule = h .rule; items = items; pending = h .pending; places = h .places; next = h .next; cells = h .cells }
 
 abbrev pub withPending : House → List ℕ → House
-withPending h pending = record { count = h .count; order = h .order; items = h .items; pending = pending; places = h .places; next = h .next; cells = h .cells }
+withPending h pending = record { count = h .count; order = h .order; rule = h .rule; items = h .items; pending = pending; places = h .places; next = h .next; cells = h .cells }
 
 abbrev pub withPlace : House → ℕ → Place → House
-withPlace h p x = record { count = h .count; order = h .order; items = h .items; pending = h .pending; places = set (h .places) p x; next = h .next; cells = h .cells }
+withPlace h p x = record { count = h .count; order = h .order; rule = h .rule; items = h .items; pending = h .pending; places = set (h .places) p x; next = h .next; cells = h .cells }
 
 abbrev pub withNext : House → ℕ → ℕ → House
-withNext h l t = record { count = h .count; order = h .order; items = h .items; pending = h .pending; places = h .places; next = set (h .next) l t; cells = h .cells }
+withNext h l t = record { count = h .count; order = h .order; rule = h .rule; items = h .items; pending = h .pending; places = h .places; next = set (h .next) l t; cells = h .cells }
 
 abbrev pub withCells : House → List ℕ → House
-withCells h cells = record { count = h .count; order = h .order; items = h .items; pending = h .pending; places = h .places; next = h .next; cells = cells }
+withCells h cells = record { count = h .count; order = h .order; rule = h .rule; items = h .items; pending = h .pending; places = h .places; next = h .next; cells = cells }
 
--- what an opening fixes: how many items there are, the order of the levels, and each item's "fixed level"
-unfoldable pub fixed : House → ℕ × List ℕ × List ℕ
-fixed h = (h .count, h .order, map (λ x. x .level) (h .items))
+-- what an opening fixes: how many items there are, the order of the levels, the rule, and each item's "fixed level"
+unfoldable pub fixed : House → ℕ × List ℕ × Rule × List ℕ
+fixed h = (h .count, h .order, h .rule, map (λ x. x .level) (h .items))
 
 -- the lists of a house are as long as the arrays they stand for
 pub record Sizes (h : House) : Type 0 where

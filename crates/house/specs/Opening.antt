@@ -1,4 +1,5 @@
--- Opening a house. "Opening takes a list of level bytes", and "now also takes 16 bytes" (CR 6): the order of the levels.
+-- Opening a house. "Opening takes a list of level bytes", and "now also takes 16 bytes" (CR 6): the order of the levels. "The opener
+-- names rule A .. or rule B" (CR 7).
 -- Assumes nothing.
 use Prim.Native.Nat.{ℕ}
 use mathlib.Core.Bool.{Bool, _||_, not, cond}
@@ -8,6 +9,8 @@ use lib.Dec.{eqb, ltb}
 use Rattle.house.specs.declared.House.{House}
 use Rattle.house.specs.declared.Item.{Item}
 use Rattle.house.specs.declared.Opening.{Opening}
+use Rattle.house.specs.declared.Rule.{Rule}
+use Rattle.house.specs.declared.Rule.the-variants.{A}
 use Rattle.house.specs.Search.{any, mapFrom}
 use Rattle.house.specs.House.{blank, vacant}
 use Rattle.house.specs.Order.{oldChain, disordered}
@@ -48,11 +51,12 @@ unfoldable pub rows : List ℕ → List Item
 rows levels = mapFrom 0 (rowAt levels) (replicate 64 blank)
 
 -- nothing pending, "every place free and every next ticket 1"; all cells "are clear at opening"
-unfoldable pub opened : List ℕ → List ℕ → House
-opened levels order = record { count = length levels; order = order; items = rows levels; pending = replicate 64 0; places = replicate 32 vacant; next = replicate 4 1; cells = replicate 2048 0 }
+unfoldable pub opened : List ℕ → List ℕ → Rule → House
+opened levels order rule = record { count = length levels; order = order; rule = rule; items = rows levels; pending = replicate 64 0; places = replicate 32 vacant; next = replicate 4 1; cells = replicate 2048 0 }
 
--- "A refused opening yields a house of no items with every place free and every next ticket 1", and "holds the old chain" (CR 6)
-unfoldable pub opening : List ℕ → List ℕ → Opening
-opening levels order =
+-- "A refused opening yields a house of no items with every place free and every next ticket 1", "holds the old chain" (CR 6), and takes
+-- rule A (CR 7)
+unfoldable pub opening : List ℕ → List ℕ → Rule → Opening
+opening levels order rule =
     let n = openVerdict levels order in
-    record { number = n; house = cond (eqb n 0) (opened levels order) (opened [] oldChain) }
+    record { number = n; house = cond (eqb n 0) (opened levels order rule) (opened [] oldChain A) }

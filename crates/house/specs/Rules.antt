@@ -17,6 +17,8 @@ use Rattle.house.specs.declared.Mark.the-variants.{Read, Write, Certify,
 use Rattle.house.specs.declared.Outcome.{Outcome}
 use Rattle.house.specs.declared.Reply.{Reply}
 use Rattle.house.specs.declared.Request.{Request}
+use Rattle.house.specs.declared.Rule.{Rule}
+use Rattle.house.specs.declared.Rule.the-variants.{A, B}
 use Rattle.house.specs.declared.Standing.the-variants.{Active, Certified}
 use Rattle.house.specs.Search.{find, ifFound, nobody, findFirst, mapFrom}
 use Rattle.house.specs.Checks.{foremost}
@@ -210,47 +212,57 @@ readFor h me i = readAnswer (h .cells) (itemAt (h .items) i) (pendingAt (h .pend
 unfoldable pub writtenBy : House → ℕ → ℕ → ℕ → House
 writtenBy h me i v = withPending (withCells h (withMark Write (h .cells) me i)) (set (h .pending) i v)
 
--- Certify: "each read lock on those items held from a higher level is marked signalled". The cell c of place p on an item that
--- `me` has written
-unfoldable pub signalledCell : List ℕ → ℕ → ℕ → ℕ → ℕ
-signalledCell order me p c = cond (above order (levelOf p) (levelOf me) && has Read c) (marked Signalled c) c
+-- the transaction at place p has written item i: it holds write on it or, once certified, certify
+unfoldable pub wrote : List ℕ → ℕ → ℕ → Bool
+wrote cells p i = holds cells Write p i || holds cells Certify p i
 
--- "all its write locks become certify locks"
-unfoldable pub convertedCell : List ℕ → ℕ → ℕ → ℕ → ℕ
-convertedCell order me p c = cond (eqb p me) (marked Certify (unmarked Write c)) (signalledCell order me p c)
+-- The operation that gives the signals: "rule A, as now, or rule B, where signals are given at commit instead of certify" (CR 7)
+abbrev pub signalsAt : Rule → ℕ
+signalsAt A = certify
+signalsAt B = commit
 
--- the cell c of place p and item i, after it
-unfoldable pub certifiedCell : List ℕ → List ℕ → ℕ → ℕ → ℕ → ℕ → ℕ
-certifiedCell order cells me p i c = cond (holds cells Write me i) (convertedCell order me p c) c
+-- "each read lock on those items held from a higher level is marked signalled": the cell c of place p and item i, where `me` gives
+-- signals; if it gives none, nothing is
+unfoldable pub signalledCell : Bool → List ℕ → List ℕ → ℕ → ℕ → ℕ → ℕ → ℕ
+signalledCell gives order cells me p i c = cond (gives && wrote cells me i && above order (levelOf p) (levelOf me) && has Read c) (marked Signalled c) c
+
+-- the cells once `me` has given the signals of that operation
+unfoldable pub signalled : ℕ → House → ℕ → List ℕ
+signalled operation h me = mapCells (signalledCell (eqb (signalsAt (h .rule)) operation) (h .order) (h .cells) me) (h .cells)
+
+-- Certify: its signals; "all its write locks become certify locks"
+unfoldable pub convertedCell : ℕ → ℕ → ℕ → ℕ → ℕ
+convertedCell me p i c = cond (eqb p me && has Write c) (marked Certify (unmarked Write c)) c
 
 -- "it is certified"
 unfoldable pub certifiedBy : House → ℕ → House
 certifiedBy h me =
     let ticket = placeAt (h .places) me .ticket in
-    withPlace (withCells h (mapCells (certifiedCell (h .order) (h .cells) me) (h .cells))) me (record { standing = Certified; ticket = ticket })
+    withPlace (withCells h (mapCells (convertedCell me) (signalled certify h me))) me (record { standing = Certified; ticket = ticket })
 
--- Commit and abort: "Pending values of its items go to 0": of those it holds write or certify on
+-- Commit and abort: "Pending values of its items go to 0": of those it has written
 unfoldable pub droppedPending : List ℕ → ℕ → ℕ → ℕ → ℕ
-droppedPending cells me i v = cond (holds cells Write me i || holds cells Certify me i) 0 v
+droppedPending cells me i v = cond (wrote cells me i) 0 v
 
 -- "its cells are cleared, its place is free"
 unfoldable pub clearedCell : ℕ → ℕ → ℕ → ℕ → ℕ
 clearedCell me p i c = cond (eqb p me) 0 c
 
-unfoldable pub left : House → ℕ → House
-left h me = withPending (withPlace (withCells h (mapCells (clearedCell me) (h .cells))) me vacant) (mapFrom 0 (droppedPending (h .cells) me) (h .pending))
+-- the house once `me` has left it, with these cells
+unfoldable pub left : List ℕ → House → ℕ → House
+left cells h me = withPending (withPlace (withCells h (mapCells (clearedCell me) cells)) me vacant) (mapFrom 0 (droppedPending (h .cells) me) (h .pending))
 
--- Commit: "Each item with its certify lock takes the pending value, and its version grows by one, however often it was
--- written."
+-- Commit: its signals; "Each item with its certify lock takes the pending value, and its version grows by one, however often it
+-- was written."
 unfoldable pub committedItem : List ℕ → List ℕ → ℕ → ℕ → Item → Item
 committedItem cells pending me i x = cond (holds cells Certify me i) (record { level = x .level; value = pendingAt pending i; version = grown (x .version) }) x
 
 abbrev pub committedBy : House → ℕ → House
-committedBy h me = withItems (left h me) (mapFrom 0 (committedItem (h .cells) (h .pending) me) (h .items))
+committedBy h me = withItems (left (signalled commit h me) h me) (mapFrom 0 (committedItem (h .cells) (h .pending) me) (h .items))
 
 -- Abort: as it is left. "Signals it gave to others stand."
 abbrev pub abortedBy : House → ℕ → House
-abortedBy h me = left h me
+abortedBy h me = left (h .cells) h me
 
 -- Ask: "the lowest signalled item of the asker and .. how many are signalled (both 0 when none)"
 unfoldable pub askAnswer : List ℕ → ℕ → Answer

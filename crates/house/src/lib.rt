@@ -20,11 +20,17 @@ pub struct Place {
     pub ticket: u32,
 }
 
+// When the signals are given: at certify, or at commit (specs/Rules.antt, `signalsAt`).
+pub enum Rule {
+    A,
+    B,
+}
+
 // The house passes through each step by value. Its order is a table of 4 by 4 bytes, row by row, where 1 says that the column's level
 // dominates the row's. Of the two versions of an item the committed one stands in its row; "a pending
 // value, 0 when nobody has written" in a table beside it, which, being of numbers, can be lent. Place p of level l is number
 // l * 8 + p; a cell is a byte, the sum of the weights of its marks, and the cells of one place lie together, so that a
-// transaction's own 64 are scanned in one sweep.
+// transaction's own 64 are scanned in one sweep. The rule, a byte, stands last, so that the tables lie where they did.
 pub struct House {
     pub count: usize,
     pub order: [u8; 16],
@@ -33,6 +39,7 @@ pub struct House {
     pub places: [Place; 32],
     pub next: [u32; 4],
     pub cells: [u8; 2048],
+    pub rule: Rule,
 }
 
 // The marks that a lock cell may have.

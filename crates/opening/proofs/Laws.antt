@@ -9,6 +9,8 @@ use mathlib.Core.List.{List, [], _∷_}
 use lib.ListN.{length}
 use borrow.Author.Tests.{eqb-true, eq-eqb, ne-eqb}
 use Rattle.house.specs.declared.House.{House}
+use Rattle.house.specs.declared.Rule.{Rule}
+use Rattle.house.specs.declared.Rule.the-variants.{A}
 use Rattle.house.specs.Checks.{foremost}
 use Rattle.house.specs.Order.{oldChain, disordered}
 use Rattle.house.specs.Opening.{wrongLength, wrongLevel, wrongTable, openVerdict, opened, opening}
@@ -27,15 +29,15 @@ module _ (levels table order : List ℕ) (made : length table ≡ 16 → order �
       (rw (p, q, r, s) at e)
       ∙ elim (is (wrongLength levels || wrongTable table)) [ inl y ↦ rw y | inr y ↦ rw (same y) ]
 
-  pub accepted : (n : ℕ) (h : House) → n ≡ openVerdict levels table → n ≡ 0 → h ≡ opened levels order → record { number = n; house = h } ≡ opening levels table
+  pub accepted : (rule : Rule) (n : ℕ) (h : House) → n ≡ openVerdict levels table → n ≡ 0 → h ≡ opened levels order rule → record { number = n; house = h } ≡ opening levels table rule
   unfolding opening openVerdict
-  accepted n h e k p =
+  accepted rule n h e k p =
       elim (is (wrongLength levels || wrongTable table)) [
         | inl y ↦ absurd (omega (arith, rw y at e))
         | inr y ↦ rw (sym e, eq-eqb n 0 k, p, same y)
       ]
 
--- any number but 0 goes with the house of no items, which holds the old chain
-pub refused : (levels table chain : List ℕ) (n : ℕ) (h : House) → n ≡ openVerdict levels table → n ≢ 0 → chain ≡ oldChain → h ≡ opened [] chain → record { number = n; house = h } ≡ opening levels table
+-- any number but 0 goes with the house of no items, which holds the old chain and takes rule A
+pub refused : (levels table chain : List ℕ) (rule : Rule) (n : ℕ) (h : House) → n ≡ openVerdict levels table → n ≢ 0 → chain ≡ oldChain → h ≡ opened [] chain A → record { number = n; house = h } ≡ opening levels table rule
 unfolding opening
-refused levels table chain n h e k c p = rw (sym e, ne-eqb n 0 k, p, c)
+refused levels table chain rule n h e k c p = rw (sym e, ne-eqb n 0 k, p, c)

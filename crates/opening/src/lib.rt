@@ -1,4 +1,4 @@
-// Opening a house from a list of level bytes and a table that says which level dominates which.
+// Opening a house from a list of level bytes, a table that says which level dominates which, and the rule of its signals.
 
 ghost use mathlib.Core.Path.{_≡_};
 ghost use mathlib.Core.List.{[], _∷_};
@@ -11,6 +11,7 @@ use house::House;
 use house::Item;
 use house::Opening;
 use house::Place;
+use house::Rule;
 use house::Standing;
 use parts::dominates;
 
@@ -158,8 +159,8 @@ fn all_rows(levels: &[u8]) -> [Item; 64]
     out
 }
 
-fn furnish(levels: &[u8], order: [u8; 16]) -> House
-    ensures { λ r. ⌜ r ≡ opened (now (levels .entry)) order ⌝ }
+fn furnish(levels: &[u8], order: [u8; 16], rule: Rule) -> House
+    ensures { λ r. ⌜ r ≡ opened (now (levels .entry)) order rule ⌝ }
 {
     let items = all_rows(levels);
     let vacant = Place {
@@ -169,6 +170,7 @@ fn furnish(levels: &[u8], order: [u8; 16]) -> House
     House {
         count: levels.len(),
         order,
+        rule,
         items,
         pending: [0; 64],
         places: [vacant; 32],
@@ -177,18 +179,18 @@ fn furnish(levels: &[u8], order: [u8; 16]) -> House
     }
 }
 
-// A refused opening yields the house of no items, which holds the old chain.
-pub fn open(levels: &[u8], table: &[u8]) -> Opening
-    ensures { λ r. ⌜ r ≡ opening (now (levels .entry)) (now (table .entry)) ⌝ }
+// A refused opening yields the house of no items, which holds the old chain and takes rule A.
+pub fn open(levels: &[u8], table: &[u8], rule: Rule) -> Opening
+    ensures { λ r. ⌜ r ≡ opening (now (levels .entry)) (now (table .entry)) rule ⌝ }
 {
     let order = ordered_by(table);
     let size = has_wrong_length(levels) | has_wrong_table(table);
     let number = verdict(size, has_wrong_level(levels), is_disordered(order));
     if number != 0 {
         let chain = old_chain();
-        let house = furnish(&levels[..0], chain);
+        let house = furnish(&levels[..0], chain, Rule::A);
         return Opening { number, house };
     }
-    let house = furnish(levels, order);
+    let house = furnish(levels, order, rule);
     Opening { number, house }
 }

@@ -5,16 +5,18 @@ mod rows;
 
 ghost use mathlib.Core.Path.{_≡_};
 ghost use Prim.Native.Nat.{_%_};
+ghost use lib.Dec.{eqb};
 ghost use Rattle.house.specs.declared.Answer.the-variants.{Delayed};
 ghost use Rattle.house.specs.Search.{any};
 ghost use Rattle.house.specs.Cell.{weight, has, marked, unmarked, holds};
 ghost use Rattle.house.specs.House.{dominates, levelOf};
-ghost use Rattle.house.specs.Rules.{grown, ticketAfter, said, replied};
+ghost use Rattle.house.specs.Rules.{signalsAt, grown, ticketAfter, said, replied};
 use house::Answer;
 use house::Mark;
 use house::Place;
 use house::Reply;
 use house::Request;
+use house::Rule;
 pub use rows::active;
 pub use rows::certified;
 pub use rows::left_free;
@@ -67,6 +69,16 @@ pub fn holds_any(cells: &[u8; 2048], m: Mark, me: usize) -> bool
         hit = hit | has_mark(m, cells[here * 64 + i]);
     }
     hit
+}
+
+// Whether that operation gives the signals.
+pub fn gives_at(rule: Rule, operation: u8) -> bool
+    ensures { λ r. ⌜ r ≡ eqb (signalsAt rule) operation ⌝ }
+{
+    match rule {
+        Rule::A => 3 == operation,
+        Rule::B => 4 == operation,
+    }
 }
 
 pub fn grow(version: u32) -> u32

@@ -7,15 +7,17 @@ use house::House;
 use house::Mark;
 use parts::active;
 use parts::certified;
+use parts::gives_at;
 use parts::left_free;
 use parts::next_ticket;
 use ruling::Change;
-use sweeps::certify_cells;
 use sweeps::clear_cells;
 use sweeps::commit_items;
+use sweeps::convert_cells;
 use sweeps::drop_pending;
 use sweeps::has_claimed;
 use sweeps::mark_cell;
+use sweeps::signal_readers;
 
 fn is_fit(change: Change) -> bool
     ensures { λ r. ⌜ r ≡ fits change ⌝ }
@@ -53,7 +55,9 @@ pub fn perform(h: House, change: Change) -> House
         Change::Certify(me) => {
             // The order is lent where it lies, and the cells as a copy: the other way round every done request copies the house once more.
             let mut cells = h.cells;
-            certify_cells(&mut cells, &h.order, me);
+            let gives = gives_at(h.rule, 3);
+            signal_readers(&mut cells, &h.order, gives, me);
+            convert_cells(&mut cells, me);
             h.cells = cells;
             let place = h.places[me];
             let seat = certified(place);
@@ -70,6 +74,13 @@ pub fn perform(h: House, change: Change) -> House
                 let pending = h.pending;
                 let dropped = drop_pending(pending, &h.cells, me);
                 h.pending = dropped;
+            }
+            // Lent in the same way, but under a test: who gives no signals copies no cells.
+            let gives = commits & gives_at(h.rule, 4);
+            if gives {
+                let mut given = h.cells;
+                signal_readers(&mut given, &h.order, gives, me);
+                h.cells = given;
             }
             clear_cells(&mut h.cells, me);
             let left = left_free();

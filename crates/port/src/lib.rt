@@ -4,20 +4,37 @@
 
 ghost use mathlib.Core.Path.{_≡_};
 ghost use lib.ListN.{length};
-ghost use Rattle.house.specs.Opening.{opening};
 ghost use Rattle.desk.specs.Turn.{turned, answered};
 ghost use Rattle.maps.specs.Map.{mapped, filled};
+ghost use Rattle.port.specs.Call.{openingBy};
 use desk::turn;
 use desk::turn_in_place;
+use house::Opening;
+use house::Rule;
 use maps::read_map;
 use opening::open;
 
-// The number of an opening: 0, 13, 14 or 16.
-#[no_mangle]
-pub extern "C" fn desk_fresh_open(levels: &[u8], table: &[u8]) -> u8
-    ensures { λ r. ⌜ r ≡ opening (now (levels .entry)) (now (table .entry)) .number ⌝ }
+// The rule is a number: 0 is A, 1 is B. Another is refused with 28.
+fn open_by(levels: &[u8], table: &[u8], rule: u8) -> Opening
+    ensures { λ r. ⌜ r ≡ openingBy (now (levels .entry)) (now (table .entry)) rule ⌝ }
 {
-    let opened = open(levels, table);
+    match rule {
+        0 => open(levels, table, Rule::A),
+        1 => open(levels, table, Rule::B),
+        _ => {
+            let refused = open(b"", b"", Rule::A);
+            let house = refused.house;
+            Opening { number: 28, house }
+        }
+    }
+}
+
+// The number of an opening: 0, 28, 13, 14 or 16.
+#[no_mangle]
+pub extern "C" fn desk_fresh_open(levels: &[u8], table: &[u8], rule: u8) -> u8
+    ensures { λ r. ⌜ r ≡ openingBy (now (levels .entry)) (now (table .entry)) rule .number ⌝ }
+{
+    let opened = open_by(levels, table, rule);
     opened.number
 }
 
@@ -27,15 +44,16 @@ pub extern "C" fn desk_fresh_open(levels: &[u8], table: &[u8]) -> u8
 pub extern "C" fn desk_fresh_turn(
     levels: &[u8],
     table: &[u8],
+    rule: u8,
     requests: &[u8],
     replies: &mut [u8],
     most: usize,
 ) -> usize
-    ensures { λ r. ⌜ (let opened = opening (now (levels .entry)) (now (table .entry)) .house in
+    ensures { λ r. ⌜ (let opened = openingBy (now (levels .entry)) (now (table .entry)) rule .house in
         (r ≡ turned opened (now (requests .entry)) (now (replies .entry)) most .count)
         × (now (replies .exit) ≡ answered opened (now (requests .entry)) (now (replies .entry)) most)) ⌝ }
 {
-    let opened = open(levels, table);
+    let opened = open_by(levels, table, rule);
     let house = opened.house;
     let served = turn(house, requests, replies, most);
     served.count
@@ -46,15 +64,16 @@ pub extern "C" fn desk_fresh_turn(
 pub extern "C" fn desk_fresh_turn_in_place(
     levels: &[u8],
     table: &[u8],
+    rule: u8,
     requests: &[u8],
     replies: &mut [u8],
     most: usize,
 ) -> usize
-    ensures { λ r. ⌜ (let opened = opening (now (levels .entry)) (now (table .entry)) .house in
+    ensures { λ r. ⌜ (let opened = openingBy (now (levels .entry)) (now (table .entry)) rule .house in
         (r ≡ turned opened (now (requests .entry)) (now (replies .entry)) most .count)
         × (now (replies .exit) ≡ answered opened (now (requests .entry)) (now (replies .entry)) most)) ⌝ }
 {
-    let opened = open(levels, table);
+    let opened = open_by(levels, table, rule);
     let house = opened.house;
     let served = turn_in_place(house, requests, replies, most);
     served.count
@@ -67,6 +86,7 @@ pub extern "C" fn desk_fresh_turn_in_place(
 pub extern "C" fn desk_fresh_map(
     levels: &[u8],
     table: &[u8],
+    rule: u8,
     before: &[u8],
     earlier: &mut [u8],
     level: u8,
@@ -76,7 +96,7 @@ pub extern "C" fn desk_fresh_map(
     after: &[u8],
     later: &mut [u8],
 ) -> usize
-    ensures { λ r. ⌜ (let opened = opening (now (levels .entry)) (now (table .entry)) .house in
+    ensures { λ r. ⌜ (let opened = openingBy (now (levels .entry)) (now (table .entry)) rule .house in
         let served = turned opened (now (before .entry)) (now (earlier .entry)) (length (now (before .entry))) in
         let map = mapped (served .house) level ticket (now (items .entry)) (now (replies .entry)) in
         (r ≡ map .count)
@@ -84,7 +104,7 @@ pub extern "C" fn desk_fresh_map(
         × (now (replies .exit) ≡ filled (served .house) level ticket (now (items .entry)) (now (replies .entry)))
         × (now (later .exit) ≡ answered (map .house) (now (after .entry)) (now (later .entry)) (length (now (after .entry))))) ⌝ }
 {
-    let opened = open(levels, table);
+    let opened = open_by(levels, table, rule);
     let house = opened.house;
     let served = turn_in_place(house, before, earlier, before.len());
     let house = served.house;

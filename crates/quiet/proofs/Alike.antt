@@ -4,12 +4,15 @@ use Prim.Native.Nat.{ℕ}
 use mathlib.Core.Path.{_≡_, refl, sym, _∙_}
 use Rattle.house.specs.declared.House.{House}
 use Rattle.house.specs.House.{itemAt}
-use Rattle.reach.proofs.Law.{same-order, same-level}
+use Rattle.reach.proofs.Law.{same-order, same-rule, same-level}
 use Rattle.quiet.specs.Alike.{Alike}
 
--- the levels have one order in both, and each item one level
+-- the levels have one order in both, the signals one rule, and each item one level
 pub order-alike : {k : ℕ} {h g : House} → Alike k h g → h .order ≡ g .order
 order-alike {k} {h} {g} A = same-order h g (A .fixed)
+
+pub rule-alike : {k : ℕ} {h g : House} → Alike k h g → h .rule ≡ g .rule
+rule-alike {k} {h} {g} A = same-rule h g (A .fixed)
 
 pub level-alike : {k : ℕ} {h g : House} → Alike k h g → (i : ℕ) → itemAt (h .items) i .level ≡ itemAt (g .items) i .level
 level-alike {k} {h} {g} A = same-level h g (A .fixed)

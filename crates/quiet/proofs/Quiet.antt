@@ -40,15 +40,15 @@ module _ (order : List ℕ) (k : ℕ) (b : k < 4) where
       ]
 
 pub no-marking : NoMarking
-no-marking k b levels table qs =
-    let h = opening levels table .house in
-    let K = opening-has levels table in
+no-marking k b levels table rule qs =
+    let h = opening levels table rule .house in
+    let K = opening-has levels table rule in
     let r = unnoticed (h .order) k b refl K K (alike-itself k h) qs in
     record { told = r .0; afterwards = r .1 }
 
 pub nobody-can-tell : NobodyCanTell
-nobody-can-tell k b levels table qs rs e =
-    let h = opening levels table .house in
-    let x = no-marking k b levels table qs in
-    let y = no-marking k b levels table rs in
+nobody-can-tell k b levels table rule qs rs e =
+    let h = opening levels table rule .house in
+    let x = no-marking k b levels table rule qs in
+    let y = no-marking k b levels table rule rs in
     (x .told ∙ ap (replies h) e ∙ sym (y .told), alike-on (x .afterwards) (rw e (alike-back (y .afterwards))))

@@ -5,6 +5,8 @@ use Prim.Native.Nat.{ℕ, _≤_, _<_}
 use mathlib.Core.Path.{_≡_, refl, sym, ap, ap₂, _∙_}
 use mathlib.Core.Logic.{_≢_, inl, inr}
 use mathlib.Core.Bool.{Bool, true, false, not, cond}
+use mathlib.Core.List.{List}
+use lib.ListN.{length}
 use lib.Dec.{ltb}
 use Rattle.house.specs.declared.Answer.the-variants.{Refused, Delayed, Ticket, Signals}
 use Rattle.house.specs.declared.Found.{Found}
@@ -19,19 +21,19 @@ use Rattle.house.specs.Search.{ifFound}
 use Rattle.house.specs.Cell.{marked, cellAt, withMark, holds, firstSignalled, countSignalled}
 use Rattle.house.specs.House.{fixed, dominates, levelOf, itemAt, pendingAt, placeAt, vacancy}
 use Rattle.house.specs.Checks.{foremost}
-use Rattle.house.specs.Rules.{begin, read, write, certify, commit, abort, _does_, asker, usesItem, ticketAfter, begun, readBy, readAnswer, readFor, writtenBy, certifiedCell, certifiedBy, droppedPending, clearedCell, left, committedItem, committedBy, askAnswer, replied, served, performed, holder, refusals, named, stepped}
+use Rattle.house.specs.Rules.{begin, read, write, certify, commit, abort, _does_, asker, usesItem, ticketAfter, begun, readBy, readAnswer, readFor, writtenBy, wrote, signalledCell, signalled, convertedCell, certifiedBy, droppedPending, clearedCell, left, committedItem, committedBy, abortedBy, askAnswer, replied, served, performed, holder, refusals, named, stepped}
 use Rattle.house.proofs.Tests.{same, and-true, or-left, or-right}
 use Rattle.house.proofs.Searches.{scan-same}
 use Rattle.house.proofs.Cells.{cell-here, cell-elsewhere}
 use Rattle.house.proofs.Checks.{Clear, clear, item-there}
 use Rattle.house.proofs.Steps.{refused-is, waits-is, free-is}
 use Rattle.house.proofs.Places.{seek-at, vacancy-at}
-use Rattle.house.proofs.Effects.{begun-place, begun-next, written-pending, certified-place, certified-cell, left-pending, left-place, left-cell, committed-item, begun-place-other, begun-next-other, written-pending-other, certified-place-other, left-place-other, committed-fixed}
+use Rattle.house.proofs.Effects.{begun-place, begun-next, written-pending, signalled-long, signalled-cell, certified-place, certified-cell, left-pending, left-place, left-cell, committed-item, begun-place-other, begun-next-other, written-pending-other, certified-place-other, left-place-other, committed-fixed}
 use Rattle.reach.specs.Kept.{Kept}
 use Rattle.reach.proofs.Law.{Law, same-level}
 use Rattle.reach.proofs.Kept.{kept-law}
 use Rattle.quiet.specs.Alike.{Alike, AnsweredAlike}
-use Rattle.quiet.proofs.Alike.{order-alike}
+use Rattle.quiet.proofs.Alike.{order-alike, rule-alike}
 use Rattle.quiet.proofs.Numbers.{vacancy-alike, mark-alike, item-seen, asker-alike, refusals-alike, holder-alike, holder-seen}
 
 -- two outcomes: the same reply, and houses that are alike
@@ -118,42 +120,54 @@ module _ (k : ℕ) {h g : House} (L : Law h) (M : Law g) (A : Alike k h g) where
           cells = cells-alike Write i a;
         }
 
+    -- what it wrote, it wrote in both, so its signals are alike
+    signal-alike : (n p i : ℕ) → p < 32 → i < 64 → dominates (h .order) k (levelOf p) ≡ true → cellAt (signalled n h me) p i ≡ cellAt (signalled n g me) p i
+    unfolding signalledCell wrote
+    signal-alike n p i b a x = signalled-cell (L .sizes) n me p i b a ∙ rw (A .cells p i b a x, mine Write i a, mine Certify i a, order-alike A, rule-alike A) (sym (signalled-cell (M .sizes) n me p i b a))
+
     certify-alike : Alike k (certifiedBy h me) (certifiedBy g me)
-    unfolding fixed certifiedBy certifiedCell
+    unfolding fixed certifiedBy
     certify-alike =
         record {
           fixed = A .fixed;
           items = A .items;
           places = places-alike (certifiedBy h me) (certifiedBy g me) me (certified-place (L .sizes) me m ∙ rw (A .places me m d) (sym (certified-place (M .sizes) me m))) (certified-place-other h me) (certified-place-other g me);
           tickets = A .tickets;
-          cells = λ p i b a x. certified-cell (L .sizes) me p i b a ∙ rw (A .cells p i b a x, mine Write i a, order-alike A) (sym (certified-cell (M .sizes) me p i b a));
+          cells = λ p i b a x. certified-cell (L .sizes) me p i b a ∙ ap (convertedCell me p i) (signal-alike certify p i b a x) ∙ sym (certified-cell (M .sizes) me p i b a);
         }
 
-    dropped-alike : (i : ℕ) → i < 64 → pendingAt (h .pending) i ≡ pendingAt (g .pending) i → pendingAt (left h me .pending) i ≡ pendingAt (left g me .pending) i
-    unfolding droppedPending
-    dropped-alike i a e = left-pending (L .sizes) me i a ∙ rw (mine Write i a, mine Certify i a, e) (sym (left-pending (M .sizes) me i a))
+    -- the place is left, with cells that are alike
+    module _ (x y : List ℕ) (long : length x ≡ 2048) (long′ : length y ≡ 2048) (seen : (p i : ℕ) → p < 32 → i < 64 → dominates (h .order) k (levelOf p) ≡ true → cellAt x p i ≡ cellAt y p i) where
+      dropped-alike : (i : ℕ) → i < 64 → pendingAt (h .pending) i ≡ pendingAt (g .pending) i → pendingAt (left x h me .pending) i ≡ pendingAt (left y g me .pending) i
+      unfolding droppedPending wrote
+      dropped-alike i a e = left-pending (L .sizes) x me i a ∙ rw (mine Write i a, mine Certify i a, e) (sym (left-pending (M .sizes) y me i a))
 
-    abort-alike : Alike k (left h me) (left g me)
-    unfolding fixed left
-    abort-alike =
-        record {
-          fixed = A .fixed;
-          items = λ i a x. let y = A .items i a x in (y .0, dropped-alike i a (y .1));
-          places = places-alike (left h me) (left g me) me (left-place (L .sizes) me m ∙ sym (left-place (M .sizes) me m)) (left-place-other h me) (left-place-other g me);
-          tickets = A .tickets;
-          cells = λ p i b a x. left-cell (L .sizes) me p i b a ∙ ap (clearedCell me p i) (A .cells p i b a x) ∙ sym (left-cell (M .sizes) me p i b a);
-        }
+      left-alike : Alike k (left x h me) (left y g me)
+      unfolding fixed left
+      left-alike =
+          record {
+            fixed = A .fixed;
+            items = λ i a s. let e = A .items i a s in (e .0, dropped-alike i a (e .1));
+            places = places-alike (left x h me) (left y g me) me (left-place (L .sizes) x me m ∙ sym (left-place (M .sizes) y me m)) (left-place-other h x me) (left-place-other g y me);
+            tickets = A .tickets;
+            cells = λ p i b a s. left-cell (L .sizes) x me long p i b a ∙ ap (clearedCell me p i) (seen p i b a s) ∙ sym (left-cell (M .sizes) y me long′ p i b a);
+          }
 
-    -- a commit is an abort, but for the rows that it holds certify on
+    abort-alike : Alike k (abortedBy h me) (abortedBy g me)
+    abort-alike = left-alike (h .cells) (g .cells) (L .sizes .cells) (M .sizes .cells) (A .cells)
+
+    -- a commit is an abort, but for the signals and the rows that it holds certify on
     commit-alike : Alike k (committedBy h me) (committedBy g me)
     unfolding committedItem left
     commit-alike =
-        let B = abort-alike in
+        let x = signalled commit h me in
+        let y = signalled commit g me in
+        let B = left-alike x y (signalled-long (L .sizes) commit me) (signalled-long (M .sizes) commit me) (signal-alike commit) in
         record {
           fixed = committed-fixed h me ∙ A .fixed ∙ sym (committed-fixed g me);
-          items = λ i a x. let low = rw (same-level (committedBy h me) h (committed-fixed h me) i) at x in let y = A .items i a low in (
-            committed-item (L .sizes) me i a ∙ rw (mine Certify i a, y .0, y .1) (sym (committed-item (M .sizes) me i a)),
-            dropped-alike i a (y .1),
+          items = λ i a s. let low = rw (same-level (committedBy h me) h (committed-fixed h me) i) at s in let e = A .items i a low in (
+            committed-item (L .sizes) me i a ∙ rw (mine Certify i a, e .0, e .1) (sym (committed-item (M .sizes) me i a)),
+            B .items i a low .1,
           );
           places = B .places;
           tickets = B .tickets;

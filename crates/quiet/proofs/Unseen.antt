@@ -13,7 +13,7 @@ use Rattle.house.specs.declared.Outcome.{Outcome}
 use Rattle.house.specs.declared.Request.{Request}
 use Rattle.house.specs.Cell.{cellAt}
 use Rattle.house.specs.House.{dominates, above, levelOf, itemAt, pendingAt, nextAt}
-use Rattle.house.specs.Rules.{begun, readBy, writtenBy, certifiedBy, left, committedBy, abortedBy}
+use Rattle.house.specs.Rules.{commit, begun, readBy, writtenBy, signalled, certifiedBy, left, committedBy, abortedBy}
 use Rattle.house.proofs.Tests.{clash, refuted, and-true, and-intro, not-of}
 use Rattle.house.proofs.Levels.{dominated-low, dominates-on}
 use Rattle.house.proofs.Effects.{begun-next-other, written-pending-other}
@@ -50,12 +50,15 @@ module _ {h : House} (L : Law h) where
 
   abort-spares : {me : ℕ} → me < 32 → Spares h (abortedBy h me) (levelOf me)
   unfolding left
-  abort-spares m = record { items = λ i a n. (refl, left-stays L m i a (unwritten m i a n)); tickets = λ j b n. refl }
+  abort-spares {me} m = record { items = λ i a n. (refl, left-stays (L .sizes) (h .cells) me i a (unwritten m i a n)); tickets = λ j b n. refl }
 
   commit-spares : {me : ℕ} → me < 32 → Spares h (committedBy h me) (levelOf me)
-  commit-spares m =
-      let S = abort-spares m in
-      record { items = λ i a n. (committed-row L m i a (held-neither _ (unwritten m i a n) .1), S .items i a n .1); tickets = S .tickets }
+  unfolding left
+  commit-spares {me} m =
+      record {
+        items = λ i a n. let none = unwritten m i a n in (committed-row L m i a (held-neither _ none .1), left-stays (L .sizes) (signalled commit h me) me i a none);
+        tickets = λ j b n. refl;
+      }
 
   turn-spares : {q : Request} {o : Outcome} → Turn h q o → Spares h (o .house) (q .level)
   unfolding readBy certifiedBy

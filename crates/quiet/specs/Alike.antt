@@ -22,7 +22,7 @@ stays order k q = covers order k (q .level)
 
 -- the same are "the items, places, tickets and places' cells of" "the levels k dominates" (CR 6). Items are i < 64 and places p < 32
 pub record Alike (k : ℕ) (h g : House) : Type 0 where
-  -- what the opening fixed: how many items there are, the level of each, and which levels dominate which
+  -- what the opening fixed: how many items there are, the level of each, which levels dominate which, and the rule
   pub fixed : fixed h ≡ fixed g
   -- the items: row and pending value
   pub items : (i : ℕ) → i < 64 → dominates (h .order) k (itemAt (h .items) i .level) ≡ true → (itemAt (h .items) i ≡ itemAt (g .items) i) × (pendingAt (h .pending) i ≡ pendingAt (g .pending) i)

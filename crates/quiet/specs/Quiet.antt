@@ -9,6 +9,7 @@ use mathlib.Core.List.{List, [], _∷_}
 use Rattle.house.specs.declared.House.{House}
 use Rattle.house.specs.declared.Reply.{Reply}
 use Rattle.house.specs.declared.Request.{Request}
+use Rattle.house.specs.declared.Rule.{Rule}
 use Rattle.house.specs.Opening.{opening}
 use Rattle.house.specs.Run.{Event, finally, replies, trace}
 use Rattle.quiet.specs.Alike.{stays, Alike}
@@ -28,15 +29,15 @@ pub record Unnoticed (k : ℕ) (h : House) (qs : List Request) : Type 0 where
   pub told : toOthers (h .order) k (trace h qs) ≡ replies h (struck (h .order) k qs)
   pub afterwards : Alike k (finally h qs) (finally h (struck (h .order) k qs))
 
--- THE STATEMENTS, proved in proofs/Quiet.antt: from any opening, refused ones too, whatever is asked
+-- THE STATEMENTS, proved in proofs/Quiet.antt: from any opening, under either rule, refused ones too, whatever is asked
 
 abbrev pub NoMarking : Type 0
-NoMarking = (k : ℕ) → k < 4 → (levels table : List ℕ) (qs : List Request) → Unnoticed k (opening levels table .house) qs
+NoMarking = (k : ℕ) → k < 4 → (levels table : List ℕ) (rule : Rule) (qs : List Request) → Unnoticed k (opening levels table rule .house) qs
 
 -- so of two days on which the same is asked at the levels that k dominates, whatever the others do, nobody there can tell which it is
 abbrev pub NobodyCanTell : Type 0
 NobodyCanTell =
-    (k : ℕ) → k < 4 → (levels table : List ℕ) (qs rs : List Request)
-    → let h = opening levels table .house in
+    (k : ℕ) → k < 4 → (levels table : List ℕ) (rule : Rule) (qs rs : List Request)
+    → let h = opening levels table rule .house in
     struck (h .order) k qs ≡ struck (h .order) k rs
     → (toOthers (h .order) k (trace h qs) ≡ toOthers (h .order) k (trace h rs)) × Alike k (finally h qs) (finally h rs)

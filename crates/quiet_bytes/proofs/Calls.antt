@@ -55,8 +55,8 @@ all-ask order k [] s = refl
 all-ask order k (c ∷ cs) s = ap₂ _++_ (struck-asks order k c (s .0)) (all-ask order k cs (s .1)) ∙ sym (struck-append order k (asked c) (askedBy cs))
 
 pub over-calls : OverCalls
-over-calls k b levels order cs s =
-    let h = opening levels order .house in
+over-calls k b levels order rule cs s =
+    let h = opening levels order rule .house in
     let ds = map (struckCall (h .order) k) cs in
     rw (calls-are-requests h cs .0, calls-are-requests h cs .1, calls-are-requests h ds .0, calls-are-requests h ds .1, all-ask (h .order) k cs s)
-    (over-requests k b levels order (askedBy cs))
+    (over-requests k b levels order rule (askedBy cs))

@@ -7,9 +7,9 @@ use mathlib.Core.Logic.{inl, inr}
 use mathlib.Core.List.{List, [], append-nil}
 use lib.ListN.{length, drop-of-length-le}
 use lib.Seq.{take-all}
-use lib.Dec.{eqb, leb}
-use borrow.Author.Tests.{eqb-true, leb-true, leb-false}
-use Rattle.house.specs.Opening.{opening}
+use lib.Dec.{eqb}
+use borrow.Author.Tests.{eqb-true}
+use Rattle.house.specs.declared.Rule.the-variants.{A}
 use Rattle.house.specs.Run.{finally}
 use Rattle.house.proofs.Tests.{is}
 use Rattle.desk.specs.Turn.{requests}
@@ -48,8 +48,8 @@ over-input k b input =
     let o = openingOf input in
     elim (is (eqb (o .number) 0)) [
       | inl z ↦ rw (struck-opening k input, z, struck-past k input (opened-there input (eqb-true (o .number) 0 z)), struck-ask (orderIn input) k (pastOpening input))
-          (over-requests k b (levels input) (table input) _)
-      | inr z ↦ rw (struck-opening k input, z) (record { told = refl; afterwards = over-requests k b (levels input) (table input) [] .afterwards })
+          (over-requests k b (levels input) (table input) A _)
+      | inr z ↦ rw (struck-opening k input, z) (record { told = refl; afterwards = over-requests k b (levels input) (table input) A [] .afterwards })
     ]
 
 pub over-pieces : OverPieces

@@ -9,6 +9,7 @@ use lib.ListN.{length, take, drop, length-append, length-take, length-drop}
 use lib.Seq.{length-take-le, drop-at}
 use Rattle.house.specs.declared.House.{House}
 use Rattle.house.specs.declared.Request.{Request}
+use Rattle.house.specs.declared.Rule.{Rule}
 use Rattle.house.specs.Rules.{stepped}
 use Rattle.house.specs.Opening.{opening}
 use Rattle.house.specs.Run.{finally, replies, trace}
@@ -76,10 +77,10 @@ others-told order k h (q ∷ qs) =
 
 -- THE THEOREM, of requests and their replies' bytes
 
-pub over-requests : (k : ℕ) → k < 4 → (levels table : List ℕ) (qs : List Request)
-    → let h = opening levels table .house in
+pub over-requests : (k : ℕ) → k < 4 → (levels table : List ℕ) (rule : Rule) (qs : List Request)
+    → let h = opening levels table rule .house in
     UnnoticedIn (h .order) k qs (wired (replies h qs), finally h qs) (wired (replies h (struck (h .order) k qs)), finally h (struck (h .order) k qs))
-over-requests k b levels table qs =
-    let h = opening levels table .house in
-    let u = no-marking k b levels table qs in
+over-requests k b levels table rule qs =
+    let h = opening levels table rule .house in
+    let u = no-marking k b levels table rule qs in
     record { told = others-told (h .order) k h qs ∙ ap wired (u .told); afterwards = u .afterwards }

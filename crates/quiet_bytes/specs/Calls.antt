@@ -4,6 +4,7 @@ use Prim.Native.Nat.{ℕ, _/_, _≤_, _<_}
 use mathlib.Core.Bool.{cond}
 use mathlib.Core.List.{List, [], _∷_, map}
 use lib.ListN.{length}
+use Rattle.house.specs.declared.Rule.{Rule}
 use Rattle.house.specs.Opening.{opening}
 use Rattle.maps.specs.Calls.{Call, byTurn, byMap, askedBy, toldBy, afterCalls}
 use Rattle.dialogue.specs.Pieces.{Enough}
@@ -25,10 +26,10 @@ unfoldable pub AllSuffice : List Call → Type 0
 AllSuffice [] = Unit {0}
 AllSuffice (c ∷ cs) = Suffices c × AllSuffice cs
 
--- THE STATEMENT: from any opening, refused ones too
+-- THE STATEMENT: from any opening, under either rule, refused ones too
 abbrev pub OverCalls : Type 0
 OverCalls =
-    (k : ℕ) → k < 4 → (levels order : List ℕ) (cs : List Call) → AllSuffice cs
-    → let h = opening levels order .house in
+    (k : ℕ) → k < 4 → (levels order : List ℕ) (rule : Rule) (cs : List Call) → AllSuffice cs
+    → let h = opening levels order rule .house in
     let ds = map (struckCall (h .order) k) cs in
     UnnoticedIn (h .order) k (askedBy cs) (toldBy h cs, afterCalls h cs) (toldBy h ds, afterCalls h ds)

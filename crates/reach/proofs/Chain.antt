@@ -2,35 +2,41 @@
 -- Assumes nothing.
 use Prim.Native.Nat.{ℕ, _+_, _*_, _/_, _%_, _≤_, _<_}
 use native.Mathlib.Omega.{arith}
-use mathlib.Core.Path.{_≡_, refl, sym, ap₂, _∙_}
-use mathlib.Core.Logic.{_≢_, inl, inr}
+use mathlib.Core.Path.{_≡_, refl, sym, ap, _∙_}
+use mathlib.Core.Logic.{inl, inr}
 use mathlib.Core.Bool.{Bool, true, false, _||_, not, cond}
 use mathlib.Core.List.{List, [], _∷_}
 use lib.Dec.{eqb, ltb}
-use borrow.Author.Tests.{ne-eqb, eqb-true, ltb-true, ltb-false, lt-ltb, le-ltb}
-use Rattle.house.specs.declared.Answer.the-variants.{Refused, Done, Ticket}
+use borrow.Author.Tests.{eq-eqb, ne-eqb, eqb-true, eqb-false, ltb-true, ltb-false, lt-ltb, le-ltb}
+use Rattle.house.specs.declared.Answer.the-variants.{Refused, Ticket}
 use Rattle.house.specs.declared.Found.{Found}
 use Rattle.house.specs.declared.Found.the-variants.{At, Nobody}
 use Rattle.house.specs.declared.House.{House}
+use Rattle.house.specs.declared.Mark.the-variants.{Write, Certify}
 use Rattle.house.specs.declared.Outcome.{Outcome}
 use Rattle.house.specs.declared.Request.{Request}
+use Rattle.house.specs.declared.Rule.{Rule}
+use Rattle.house.specs.declared.Rule.the-variants.{A}
 use Rattle.house.specs.Search.{scan, any, ifFound}
-use Rattle.house.specs.Cell.{mapCells}
+use Rattle.house.specs.Cell.{has, cellAt, mapCells, holds}
+use Rattle.house.specs.Checks.{foremost}
 use Rattle.house.specs.House.{dominates, above, levelOf, itemAt, nextAt, vacancy}
 use Rattle.house.specs.Order.{oldChain}
-use Rattle.house.specs.Rules.{begin, read, write, certify, commit, abort, _does_, asker, noLevel, forbidden, refusals, checks, verdict, signalledCell, convertedCell, certifiedCell, certifiedBy, begun, readBy, readAnswer, writtenBy, left, askAnswer, outcome, served, performed, unserved, stepped}
+use Rattle.house.specs.Rules.{begin, read, write, certify, commit, abort, _does_, asker, noLevel, forbidden, refusals, checks, verdict, untimely, wrote, signalsAt, signalledCell, signalled, convertedCell, certifiedBy, begun, readBy, readAnswer, writtenBy, left, committedBy, askAnswer, outcome, served, performed, unserved, stepped}
 use Rattle.house.specs.Opening.{wrongLength, wrongTable, openVerdict, opened, opening}
 use Rattle.house.specs.Run.{finally, replies}
 use Rattle.house.proofs.Unfolding.{tests}
-use Rattle.house.proofs.Tests.{is, refuted, or-false, or-none}
+use Rattle.house.proofs.Tests.{is, same, clash, refuted, or-false, or-none}
 use Rattle.house.proofs.Searches.{any-none}
 use Rattle.house.proofs.Levels.{dominated-low, undisordered, oldChain-long, oldChain-ordered}
-use Rattle.house.proofs.Checks.{level-there}
-use Rattle.house.proofs.Lists.{mapFrom-same}
+use Rattle.house.proofs.Checks.{level-there, clear, passes, asker-known}
+use Rattle.house.proofs.Cells.{cell-mapped, length-mapCells, cells-same}
+use Rattle.house.proofs.Effects.{signalled-long, signalled-cell, signalled-none}
 use Rattle.reach.specs.Kept.{Kept}
 use Rattle.reach.specs.Seeking.{runBy}
-use Rattle.reach.specs.Chain.{oldForbidden, oldCertifiedCell, oldCertifiedBy, oldVerdict, oldPerformed, oldStepped, withOrder, OldLooksAtNone, OldOpening, ChainIsOld}
-use Rattle.reach.proofs.Law.{same-order}
+use Rattle.reach.specs.Chain.{oldForbidden, oldCertifiedCell, oldCertifiedBy, oldCommittedBy, oldVerdict, oldServed, oldPerformed, oldStepped, withTerms, OldLooksAtNone, OldOpening, ChainIsOld}
+use Rattle.reach.proofs.Law.{same-order, same-rule}
+use Rattle.reach.proofs.Turns.{found}
 use Rattle.reach.proofs.Kept.{step-keeps}
 use Rattle.reach.proofs.Opened.{opening-cases, opening-has}
 use Rattle.reach.proofs.Answers.{fixed-stays}
@@ -81,64 +87,90 @@ chain-is a b x =
 
 -- so the two sentences say what they said
 
-module _ (h : House) (o : h .order ≡ oldChain) where
+module _ (h : House) (o : h .order ≡ oldChain) (r : h .rule ≡ A) where
   forbidden-old : (q : Request) → q .level < 4 → oldForbidden h q ≡ forbidden h q
   unfolding oldForbidden forbidden
   forbidden-old q b = rw (o, chain-is (q .level) (itemAt (h .items) (q .item) .level) b .0)
 
-  cell-old : (me p i c : ℕ) → p < 32 → oldCertifiedCell (h .cells) me p i c ≡ certifiedCell (h .order) (h .cells) me p i c
-  unfolding oldCertifiedCell certifiedCell convertedCell signalledCell
-  cell-old me p i c b = rw (o, chain-is (levelOf p) (levelOf me) (omega arith) .1)
+  -- an active transaction has written what it holds write on
+  cell-old : (me p i : ℕ) → p < 32 → holds (h .cells) Certify me i ≡ false → let c = cellAt (h .cells) p i in oldCertifiedCell (h .cells) me p i c ≡ convertedCell me p i (signalledCell true (h .order) (h .cells) me p i c)
+  unfolding oldCertifiedCell convertedCell signalledCell wrote holds
+  cell-old me p i b none =
+      let c = cellAt (h .cells) p i in
+      rw (o, chain-is (levelOf p) (levelOf me) (omega arith) .1, none, or-none (has Write (cellAt (h .cells) me i)))
+      (elim (is (has Write (cellAt (h .cells) me i))) [
+        | inl w ↦ elim (same p me) [ inl e ↦ rw (e, w, eq-eqb me me refl, le-ltb (levelOf me) (levelOf me) (omega arith)) (rw w) | inr n ↦ rw (w, ne-eqb p me n) ]
+        | inr w ↦ elim (same p me) [ inl e ↦ rw (e, w, eq-eqb me me refl) (rw w) | inr n ↦ rw (w, ne-eqb p me n) ]
+      ])
 
-  certified-old : Kept h → (me : ℕ) → oldCertifiedBy h me ≡ certifiedBy h me
-  unfolding oldCertifiedBy certifiedBy mapCells
-  certified-old K me =
-      let z = K .sizes .cells in
-      rw (mapFrom-same 0 (λ n c. oldCertifiedCell (h .cells) me (n / 64) (n % 64) c) (λ n c. certifiedCell (h .order) (h .cells) me (n / 64) (n % 64) c) (h .cells) (λ n c b. cell-old me (n / 64) (n % 64) c (omega arith)))
+  certified-old : Kept h → (me : ℕ) → ((i : ℕ) → i < 64 → holds (h .cells) Certify me i ≡ false) → oldCertifiedBy h me ≡ certifiedBy h me
+  unfolding oldCertifiedBy certifiedBy
+  certified-old K me none =
+      let z = K .sizes in
+      let told = signalled certify h me in
+      rw (cells-same (mapCells (oldCertifiedCell (h .cells) me) (h .cells)) (mapCells (convertedCell me) told) (length-mapCells (h .cells) (z .cells) _) (length-mapCells told (signalled-long z certify me) _)
+      (λ p i b a.
+      cell-mapped (h .cells) (z .cells) (oldCertifiedCell (h .cells) me) p i b a
+      ∙ cell-old me p i b (none i a)
+      ∙ sym (cell-mapped told (signalled-long z certify me) (convertedCell me) p i b a ∙ ap (convertedCell me p i) (signalled-cell z certify me p i b a ∙ ap (λ x. signalledCell (eqb (signalsAt x) certify) (h .order) (h .cells) me p i (cellAt (h .cells) p i)) r))))
+
+  committed-old : Kept h → (me : ℕ) → oldCommittedBy h me ≡ committedBy h me
+  unfolding oldCommittedBy
+  committed-old K me = rw (signalled-none (K .sizes) commit me (rw r))
 
   -- a level above 3 is refused before its items are looked at
   verdict-old : (q : Request) → oldVerdict h q ≡ verdict h q
   unfolding oldVerdict verdict checks refusals
   verdict-old q = elim (is (noLevel q)) [ inl y ↦ rw y | inr y ↦ rw (forbidden-old q (level-there q y)) ]
 
-  performed-old : Kept h → (q : Request) → oldPerformed h q ≡ performed h q
-  unfolding oldPerformed performed served
-  performed-old K q = elim (is (q does certify)) [ inl y ↦ rw (y, other begin y (λ e. omega arith)) (by y (asker h q)) | inr y ↦ rw y ]
-    where
-      -- a certify is nothing else
-      other : (n : ℕ) → q does certify ≡ true → n ≢ certify → q does n ≡ false
-      other n y d = ne-eqb _ n (λ e. d (sym e ∙ eqb-true _ certify y))
+  module _ (K : Kept h) (q : Request) (z : foremost (refusals h q) ≡ 0) where
+    served-old : (me : ℕ) → asker h q ≡ At me → oldServed h q me ≡ served h q me
+    unfolding oldServed served untimely
+    served-old me at =
+        elim (is (q does certify)) [
+          | inl y ↦
+              let c : q .operation ≡ certify = eqb-true _ certify y in
+              let m = found {h = h} {q = q} (clear h q z .level) at .seated .within .place in
+              rw (c, certified-old K me (λ i a. refuted _ (λ e. clash (K .certifying me i m a e) (rw (c, at) at (clear h q z .timely)))))
+          | inr y ↦ rw y (elim (is (q does commit)) [ inl w ↦ rw (eqb-true (q .operation) commit w, committed-old K me) | inr w ↦ rw w ])
+        ]
 
-      by : q does certify ≡ true → (who : Found) → ifFound who (λ me. outcome (oldCertifiedBy h me) q Done) (outcome h q (Refused 6)) ≡ ifFound who (served h q) (outcome h q (Refused 6))
-      by y (At me) = rw (other read y (λ e. omega arith), other write y (λ e. omega arith), y, certified-old K me)
-      by y Nobody = refl
+    performed-old : oldPerformed h q ≡ performed h q
+    unfolding oldPerformed performed
+    performed-old =
+        elim (is (q does begin)) [
+          | inl y ↦ rw y
+          | inr y ↦ let who = asker-known h q (eqb-false _ begin y) z in rw (y, who .1) (served-old (who .0) (who .1))
+        ]
 
   stepped-old : Kept h → (q : Request) → oldStepped h q ≡ stepped h q
   unfolding oldStepped stepped
-  stepped-old K q = rw (verdict-old q, performed-old K q)
+  stepped-old K q =
+      rw (verdict-old q)
+      (elim (same (verdict h q) 0) [ inl z ↦ rw (z, performed-old K q (passes h q z .0)) | inr n ↦ rw (ne-eqb (verdict h q) 0 n) ])
 
 pub old-opening : OldOpening
 unfolding opening openVerdict wrongTable
 old-opening levels = rw (oldChain-long, or-none (wrongLength levels), undisordered oldChain oldChain-ordered)
 
--- every opening with the chain's table yields a house that has it
-opening-chain : (levels : List ℕ) → opening levels oldChain .house .order ≡ oldChain
+-- every opening with the chain's table under rule A yields a house that has them
+opening-old : (levels : List ℕ) → let h = opening levels oldChain A .house in (h .order ≡ oldChain) × (h .rule ≡ A)
 unfolding opened
-opening-chain levels = opening-cases (λ h. h .order ≡ oldChain) levels oldChain (λ P O. refl) refl
+opening-old levels = opening-cases (λ h. (h .order ≡ oldChain) × (h .rule ≡ A)) levels oldChain A (λ P O. (refl, refl)) (refl, refl)
 
 pub chain-is-old : ChainIsOld
 unfolding runBy finally replies
-chain-is-old levels qs = runs (opening levels oldChain .house) (opening-has levels oldChain) (opening-chain levels) qs
+chain-is-old levels qs = let old = opening-old levels in runs (opening levels oldChain A .house) (opening-has levels oldChain A) (old .0) (old .1) qs
   where
-    runs : (h : House) → Kept h → h .order ≡ oldChain → (qs : List Request) → runBy oldStepped h qs ≡ (finally h qs, replies h qs)
-    runs h K o [] = refl
-    runs h K o (q ∷ qs) = rw (stepped-old h o K q, runs (stepped h q .house) (step-keeps h K q) (same-order _ h (fixed-stays h q) ∙ o) qs)
+    runs : (h : House) → Kept h → h .order ≡ oldChain → h .rule ≡ A → (qs : List Request) → runBy oldStepped h qs ≡ (finally h qs, replies h qs)
+    runs h K o r [] = refl
+    runs h K o r (q ∷ qs) = let f = fixed-stays h q in rw (stepped-old h o r K q, runs (stepped h q .house) (step-keeps h K q) (same-order _ h f ∙ o) (same-rule _ h f ∙ r) qs)
 
--- THE OLD DESK LOOKS AT NO TABLE: each of its cases is the same with another one
+-- THE OLD DESK LOOKS AT NO TABLE AND AT NO RULE: each of its cases is the same with others
 
-module _ (order : List ℕ) where
+module _ (order : List ℕ) (rule : Rule) where
   abbrev Other : Outcome → Outcome
-  Other o = record { house = withOrder (o .house) order; reply = o .reply }
+  Other o = record { house = withTerms (o .house) order rule; reply = o .reply }
 
   by-cond : (b : Bool) (x y : Outcome) → cond b (Other x) (Other y) ≡ Other (cond b x y)
   by-cond true x y = refl
@@ -149,35 +181,43 @@ module _ (order : List ℕ) where
   by-found Nobody f y = refl
 
   module _ (h : House) (q : Request) where
-    verdict-same : oldVerdict (withOrder h order) q ≡ oldVerdict h q
+    verdict-same : oldVerdict (withTerms h order rule) q ≡ oldVerdict h q
     unfolding oldVerdict oldForbidden tests
     verdict-same = refl
 
-    -- but for a certify, the rules look at none either
-    served-same : q does certify ≡ false → (me : ℕ) → served (withOrder h order) q me ≡ Other (served h q me)
+    -- but for a certify and a commit, the rules look at none either
+    served-same : q does certify ≡ false → q does commit ≡ false → (me : ℕ) → served (withTerms h order rule) q me ≡ Other (served h q me)
     unfolding served readBy readAnswer writtenBy left askAnswer
-    served-same c me =
-        rw c
+    served-same c w me =
+        rw (c, w)
         (elim (is (q does read)) [
           | inl y ↦ rw y
           | inr y ↦ elim (is (q does write)) [
             | inl z ↦ rw (y, z)
-            | inr z ↦ elim (is (q does commit)) [ inl w ↦ rw (y, z, w) | inr w ↦ elim (is (q does abort)) [ inl x ↦ rw (y, z, w, x) | inr x ↦ rw (y, z, w, x) ] ]
+            | inr z ↦ elim (is (q does abort)) [ inl x ↦ rw (y, z, x) | inr x ↦ rw (y, z, x) ]
           ]
         ])
 
-    performed-same : oldPerformed (withOrder h order) q ≡ Other (oldPerformed h q)
-    unfolding oldPerformed oldCertifiedBy performed begun
-    performed-same =
+    old-same : (me : ℕ) → oldServed (withTerms h order rule) q me ≡ Other (oldServed h q me)
+    unfolding oldServed oldCertifiedBy oldCommittedBy left
+    old-same me =
         elim (is (q does certify)) [
-          | inl y ↦ rw y (by-found (asker h q) (λ me. outcome (oldCertifiedBy h me) q Done) (outcome h q (Refused 6)))
-          | inr y ↦ rw y (ap₂ (cond (q does begin)) (by-found (vacancy (h .places) (q .level)) (λ me. outcome (begun h (q .level) me) q (Ticket (nextAt (h .next) (q .level)))) (outcome h q (Refused 11))) (served-by y (asker h q)) ∙ by-cond (q does begin) _ _)
+          | inl c ↦ rw c
+          | inr c ↦ rw c (elim (is (q does commit)) [ inl w ↦ rw w | inr w ↦ rw w (served-same c w me) ])
+        ]
+
+    performed-same : oldPerformed (withTerms h order rule) q ≡ Other (oldPerformed h q)
+    unfolding oldPerformed performed begun
+    performed-same =
+        elim (is (q does begin)) [
+          | inl y ↦ rw y (by-found (vacancy (h .places) (q .level)) (λ me. outcome (begun h (q .level) me) q (Ticket (nextAt (h .next) (q .level)))) (outcome h q (Refused 11)))
+          | inr y ↦ rw y (served-by (asker h q))
         ]
       where
-        served-by : q does certify ≡ false → (who : Found) → ifFound who (served (withOrder h order) q) (outcome (withOrder h order) q (Refused 6)) ≡ Other (ifFound who (served h q) (outcome h q (Refused 6)))
-        served-by c (At me) = served-same c me
-        served-by c Nobody = refl
+        served-by : (who : Found) → ifFound who (oldServed (withTerms h order rule) q) (outcome (withTerms h order rule) q (Refused 6)) ≡ Other (ifFound who (oldServed h q) (outcome h q (Refused 6)))
+        served-by (At me) = old-same me
+        served-by Nobody = refl
 
 pub old-looks-at-none : OldLooksAtNone
 unfolding oldStepped unserved
-old-looks-at-none h order q = rw (verdict-same order h q, performed-same order h q) (by-cond order (eqb (oldVerdict h q) 0) (oldPerformed h q) (outcome h q (unserved h q (oldVerdict h q))))
+old-looks-at-none h order rule q = rw (verdict-same order rule h q, performed-same order rule h q) (by-cond order rule (eqb (oldVerdict h q) 0) (oldPerformed h q) (outcome h q (unserved h q (oldVerdict h q))))

@@ -6,6 +6,7 @@ use mathlib.Core.Path.{_≡_, refl, sym, _∙_}
 use mathlib.Core.Logic.{_≢_, _⊎_, inl, inr}
 use mathlib.Core.Bool.{true, false}
 use mathlib.Core.List.{List, [], _∷_}
+use lib.ListN.{length}
 use lib.Dec.{ltb}
 use borrow.Author.Tests.{ltb-true}
 use Rattle.house.specs.declared.House.{House}
@@ -15,14 +16,14 @@ use Rattle.house.specs.declared.Request.{Request}
 use Rattle.house.specs.Cell.{cellAt, holds}
 use Rattle.house.specs.House.{blank, itemAt, pendingAt, placeAt, nextAt, isFree}
 use Rattle.house.specs.Order.{PartialOrder}
-use Rattle.house.specs.Rules.{ticketAfter, begun, readBy, writtenBy, certifiedBy, left, committedBy, abortedBy}
+use Rattle.house.specs.Rules.{commit, ticketAfter, begun, readBy, writtenBy, wrote, signalled, certifiedBy, left, committedBy, abortedBy}
 use Rattle.house.specs.Run.{finally}
 use Rattle.house.proofs.Tests.{is, same, clash}
-use Rattle.house.proofs.Effects.{begun-place, begun-next, certified-place, certified-cell, left-place, begun-next-other, read-cell-other, written-cell-other, written-pending, written-pending-other}
-use Rattle.reach.specs.Kept.{Open, wrote, Kept, StepKeeps}
+use Rattle.house.proofs.Effects.{begun-place, begun-next, signalled-long, certified-place, left-place, begun-next-other, read-cell-other, written-cell-other, written-pending, written-pending-other}
+use Rattle.reach.specs.Kept.{Open, Kept, StepKeeps}
 use Rattle.reach.proofs.Law.{held, Law, Frame, Own, clear-has, clear-held, same-count, same-order, same-level, held-kept, lawful}
 use Rattle.reach.proofs.Turns.{MayBegin, MayRead, MayWrite, MayCertify, Turn, refused, waits, begins, reads, writes, certifies, commits, aborts, asks, turn}
-use Rattle.reach.proofs.Changes.{begin-clear, begin-frame, begin-own, read-held, read-frame, read-own, write-held, write-holds, write-frame, write-own, cell-untouched, certify-held, certify-frame, certify-own, freed, left-mine, left-dropped, left-stays, committed-row, abort-frame, commit-frame, abort-own, commit-own}
+use Rattle.reach.proofs.Changes.{begin-clear, begin-frame, begin-own, read-held, read-frame, read-own, write-held, write-holds, write-frame, write-own, certify-converts, certify-held, certify-frame, certify-own, freed, left-mine, left-dropped, left-stays, committed-row, abort-frame, commit-frame, abort-own, commit-own}
 
 -- what `Kept` has beside the law
 pub record Tidy (h : House) : Type 0 where
@@ -61,7 +62,7 @@ kept L T =
       writing = λ p i b a. L .cells p i b a .writing;
       certifying = λ p i b a. L .cells p i b a .certifying;
       higher = λ p r i b c a n x y. L .warned p r i b c a n x y .higher;
-      warned = λ p r i b c a n x y. L .warned p r i b c a n x y .signal;
+      warned = λ e p r i b c a n x y. L .warned p r i b c a n x y .signal e;
       heard = λ p i b a. L .cells p i b a .heard;
       room = λ p i b a. L .cells p i b a .room;
     }
@@ -82,7 +83,7 @@ kept-law K =
             room = K .room p i b a;
           };
       sole = K .sole;
-      warned = λ p r i b c a n x y. record { higher = K .higher p r i b c a n x y; signal = K .warned p r i b c a n x y };
+      warned = λ p r i b c a n x y. record { higher = K .higher p r i b c a n x y; signal = λ e. K .warned e p r i b c a n x y };
       apart = K .apart;
       issued = K .issued;
     }
@@ -215,27 +216,31 @@ module _ {h : House} {me : ℕ} (L : Law h) (T : Tidy h) (K : MayCertify h me) w
         next = T .next;
         inside = λ i a c.
             let z = T .inside me i m a c in
-            certified-cell (L .sizes) me me i m a ∙ cell-untouched (h .order) (h .cells) me me i _ (clear-has Write _ z) ∙ z;
+            certify-converts (L .sizes) me i m a ∙ rw (clear-has Write _ z) z;
       }
 
 -- Commit and abort
 module _ {h : House} {me : ℕ} (L : Law h) (T : Tidy h) (m : me < 32) where
-  abort-neat : Neat h (abortedBy h me) me
+  left-neat : (cells : List ℕ) → length cells ≡ 2048 → Neat h (left cells h me) me
   unfolding left
-  abort-neat =
+  left-neat cells long =
+      let z = L .sizes in
       record {
         rows = λ i a c. refl;
-        pending = λ i a g. elim (is (held (cellAt (h .cells) me i))) [ inl y ↦ inl (left-dropped L m i a y) | inr y ↦ inr (y, left-stays L m i a y) ];
-        drawn = λ i a w. clash w (clear-held _ (left-mine L m i a));
-        ticketless = λ e. rw (left-place (L .sizes) me m);
-        named = λ o. clash (freed L m) o;
+        pending = λ i a g. elim (is (held (cellAt (h .cells) me i))) [ inl y ↦ inl (left-dropped z cells me i a y) | inr y ↦ inr (y, left-stays z cells me i a y) ];
+        drawn = λ i a w. clash w (clear-held _ (left-mine z cells me long i m a));
+        ticketless = λ e. rw (left-place z cells me m);
+        named = λ o. clash (freed z cells me m) o;
         next = T .next;
-        inside = λ i a c. left-mine L m i a;
+        inside = λ i a c. left-mine z cells me long i m a;
       }
+
+  abort-neat : Neat h (abortedBy h me) me
+  abort-neat = left-neat (h .cells) (L .sizes .cells)
 
   commit-neat : Neat h (committedBy h me) me
   commit-neat =
-      let N = abort-neat in
+      let N = left-neat (signalled commit h me) (signalled-long (L .sizes) commit me) in
       record {
         rows = λ i a c. committed-row L m i a (clear-has Certify _ (T .inside me i m a c));
         pending = N .pending;

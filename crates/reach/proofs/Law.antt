@@ -11,6 +11,8 @@ use lib.ListN.{getD, List·getD-map}
 use Rattle.house.specs.declared.House.{House}
 use Rattle.house.specs.declared.Mark.{Mark}
 use Rattle.house.specs.declared.Mark.the-variants.{Read, Write, Certify, Signalled}
+use Rattle.house.specs.declared.Rule.{Rule}
+use Rattle.house.specs.declared.Rule.the-variants.{A}
 use Rattle.house.specs.declared.Standing.{Standing}
 use Rattle.house.specs.Cell.{has, cellAt, anotherHolds}
 use Rattle.house.specs.House.{fixed, Sizes, dominates, above, levelOf, blank, itemAt, pendingAt, placeAt, isFree, isActive, isCertified}
@@ -46,15 +48,15 @@ pub record CellLaw (order : List ℕ) (x v l : ℕ) (s : Standing) (c : ℕ) : T
   pub room : held c ≡ true → v < 4294967295
 
 -- a cell with a read lock from level a, on an item that level b has certified
-pub record Warned (order : List ℕ) (a b c : ℕ) : Type 0 where
+pub record Warned (order : List ℕ) (rule : Rule) (a b c : ℕ) : Type 0 where
   pub higher : above order a b ≡ true
-  pub signal : has Signalled c ≡ true
+  pub signal : rule ≡ A → has Signalled c ≡ true
 
 pub record Law (h : House) : Type 0 where
   pub sizes : Sizes h
   pub cells : (p i : ℕ) → p < 32 → i < 64 → CellLaw (h .order) (itemAt (h .items) i .level) (itemAt (h .items) i .version) (levelOf p) (placeAt (h .places) p .standing) (cellAt (h .cells) p i)
   pub sole : (p q i : ℕ) → p < 32 → q < 32 → i < 64 → held (cellAt (h .cells) p i) ≡ true → held (cellAt (h .cells) q i) ≡ true → p ≡ q
-  pub warned : (p q i : ℕ) → p < 32 → q < 32 → i < 64 → q ≢ p → has Certify (cellAt (h .cells) p i) ≡ true → has Read (cellAt (h .cells) q i) ≡ true → Warned (h .order) (levelOf q) (levelOf p) (cellAt (h .cells) q i)
+  pub warned : (p q i : ℕ) → p < 32 → q < 32 → i < 64 → q ≢ p → has Certify (cellAt (h .cells) p i) ≡ true → has Read (cellAt (h .cells) q i) ≡ true → Warned (h .order) (h .rule) (levelOf q) (levelOf p) (cellAt (h .cells) q i)
   pub apart : (p q : ℕ) → p < 32 → q < 32 → Open h p → Open h q → levelOf p ≡ levelOf q → placeAt (h .places) p .ticket ≡ placeAt (h .places) q .ticket → p ≡ q
   pub issued : (p : ℕ) → p < 32 → Open h p → Issued h (levelOf p) (placeAt (h .places) p .ticket)
 
@@ -136,8 +138,8 @@ pub record Frame (h h′ : House) (me : ℕ) : Type 0 where
 pub record Own (h h′ : House) (me : ℕ) : Type 0 where
   pub cells : (i : ℕ) → i < 64 → CellLaw (h .order) (itemAt (h .items) i .level) (itemAt (h′ .items) i .version) (levelOf me) (placeAt (h′ .places) me .standing) (cellAt (h′ .cells) me i)
   pub sole : (p i : ℕ) → p < 32 → i < 64 → p ≢ me → held (cellAt (h′ .cells) me i) ≡ true → held (cellAt (h .cells) p i) ≡ false
-  pub warns : (p i : ℕ) → p < 32 → i < 64 → p ≢ me → has Certify (cellAt (h′ .cells) me i) ≡ true → has Read (cellAt (h .cells) p i) ≡ true → Warned (h .order) (levelOf p) (levelOf me) (cellAt (h′ .cells) p i)
-  pub warned : (p i : ℕ) → p < 32 → i < 64 → p ≢ me → has Certify (cellAt (h .cells) p i) ≡ true → has Read (cellAt (h′ .cells) me i) ≡ true → Warned (h .order) (levelOf me) (levelOf p) (cellAt (h′ .cells) me i)
+  pub warns : (p i : ℕ) → p < 32 → i < 64 → p ≢ me → has Certify (cellAt (h′ .cells) me i) ≡ true → has Read (cellAt (h .cells) p i) ≡ true → Warned (h .order) (h .rule) (levelOf p) (levelOf me) (cellAt (h′ .cells) p i)
+  pub warned : (p i : ℕ) → p < 32 → i < 64 → p ≢ me → has Certify (cellAt (h .cells) p i) ≡ true → has Read (cellAt (h′ .cells) me i) ≡ true → Warned (h .order) (h .rule) (levelOf me) (levelOf p) (cellAt (h′ .cells) me i)
   pub apart : (p : ℕ) → p < 32 → p ≢ me → Open h′ me → Open h p → levelOf p ≡ levelOf me → placeAt (h .places) p .ticket ≢ placeAt (h′ .places) me .ticket
   pub issued : Open h′ me → Issued h′ (levelOf me) (placeAt (h′ .places) me .ticket)
 
@@ -157,7 +159,7 @@ clear-own clear apart issued =
       issued = issued;
     }
 
--- where an opening fixed the same, there are as many items, each at its level, and the order is the same
+-- where an opening fixed the same, there are as many items, each at its level, and the order and the rule are the same
 
 pub same-count : (h g : House) → fixed h ≡ fixed g → h .count ≡ g .count
 unfolding fixed
@@ -167,9 +169,13 @@ pub same-order : (h g : House) → fixed h ≡ fixed g → h .order ≡ g .order
 unfolding fixed
 same-order h g e = ap (λ x. x .1) e
 
+pub same-rule : (h g : House) → fixed h ≡ fixed g → h .rule ≡ g .rule
+unfolding fixed
+same-rule h g e = ap (λ x. x .2) e
+
 pub same-level : (h g : House) → fixed h ≡ fixed g → (i : ℕ) → itemAt (h .items) i .level ≡ itemAt (g .items) i .level
 unfolding fixed
-same-level h g e i = sym (List·getD-map (λ x. x .level) (h .items) i blank) ∙ ap (λ x. getD (x .2) i 0) e ∙ List·getD-map (λ x. x .level) (g .items) i blank
+same-level h g e i = sym (List·getD-map (λ x. x .level) (h .items) i blank) ∙ ap (λ x. getD (x .3) i 0) e ∙ List·getD-map (λ x. x .level) (g .items) i blank
 
 module _ {h h′ : House} {me : ℕ} (L : Law h) (F : Frame h h′ me) where
   pub held-kept : (p i : ℕ) → p < 32 → i < 64 → p ≢ me → held (cellAt (h′ .cells) p i) ≡ held (cellAt (h .cells) p i)
@@ -206,14 +212,14 @@ module _ {h h′ : House} {me : ℕ} (L : Law h) (F : Frame h h′ me) where
               ]
             ];
         warned = λ p q i b c a d x y.
-            rw (same-order h′ h (F .fixed))
+            rw (same-order h′ h (F .fixed), same-rule h′ h (F .fixed))
             (elim (same p me) [
               | inl e ↦ rw e (O .warns q i c a (λ f. d (f ∙ sym e)) (rw e at x) (sym (F .cell q i c a (λ f. d (f ∙ sym e)) .reading) ∙ y))
               | inr n ↦ elim (same q me) [
                 | inl f ↦ rw f (O .warned p i b a n (sym (F .cell p i b a n .certifying) ∙ x) (rw f at y))
                 | inr k ↦
                     let w = L .warned p q i b c a d (sym (F .cell p i b a n .certifying) ∙ x) (sym (F .cell q i c a k .reading) ∙ y) in
-                    record { higher = w .higher; signal = F .cell q i c a k .signal (w .signal) }
+                    record { higher = w .higher; signal = λ r. F .cell q i c a k .signal (w .signal r) }
               ]
             ]);
         apart = λ p q b c x y l t.

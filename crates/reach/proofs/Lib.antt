@@ -14,3 +14,4 @@ pub mod Sheets
 pub mod Tickets
 pub mod Beside
 pub mod Chain
+pub mod Signals

@@ -10,6 +10,8 @@ use lib.ListN.{length, getD, List·getD-eq-default}
 use lib.Dec.{eqb, ltb}
 use borrow.Author.Tests.{eq-eqb, ne-eqb, eqb-true, eqb-false, ltb-true, ltb-false, le-ltb}
 use Rattle.house.specs.declared.House.{House}
+use Rattle.house.specs.declared.Rule.{Rule}
+use Rattle.house.specs.declared.Rule.the-variants.{A}
 use Rattle.house.specs.House.{placeAt, isFree}
 use Rattle.house.specs.Checks.{foremost}
 use Rattle.house.specs.Order.{PartialOrder, disordered, oldChain}
@@ -20,7 +22,7 @@ use Rattle.house.proofs.Levels.{ordered, undisordered, oldChain-long, oldChain-
 use Rattle.house.proofs.Checks.{none-applies, test-fails, foremost-stands, given-last}
 use Rattle.house.proofs.Openings.{opened-sizes, opened-item, opened-pending, opened-place, opened-cell, opened-next}
 use Rattle.reach.specs.Kept.{Kept, OpeningHas, ReachableHas}
-use Rattle.reach.specs.Opening.{Passable, OpeningStands, SixteenExactly, OpenedExactly, RefusedHoldsChain}
+use Rattle.reach.specs.Opening.{Passable, OpeningStands, SixteenExactly, OpenedExactly, RefusedIsOld}
 use Rattle.reach.proofs.Law.{clear-held, clear-law}
 use Rattle.reach.proofs.Kept.{kept, finally-keeps}
 
@@ -72,14 +74,14 @@ sixteen levels table e =
 
 pub sixteen-exactly : SixteenExactly
 unfolding opening
-sixteen-exactly levels table = (
+sixteen-exactly levels table rule = (
   sixteen levels table,
   λ P n. rw (verdict-order levels table P) (elim (is (disordered table)) [ inl w ↦ rw w | inr w ↦ absurd (n (ordered table w)) ]),
 )
 
 pub opening-stands : OpeningStands
 unfolding opening openVerdict
-opening-stands levels table = foremost-stands (sized levels table ++ (16, disordered table) ∷ [])
+opening-stands levels table rule = foremost-stands (sized levels table ++ (16, disordered table) ∷ [])
 
 -- an opening whose number is 0 was of a partial order
 opened-by : (levels table : List ℕ) → openVerdict levels table ≡ 0 → Passable levels table × PartialOrder table
@@ -91,29 +93,29 @@ opened-by levels table e =
 
 pub opened-exactly : OpenedExactly
 unfolding opening
-opened-exactly levels table = (
+opened-exactly levels table rule = (
   λ e. let k = opened-by levels table e in (k .0, k .1, rw (eq-eqb _ 0 e)),
   λ P O. rw (verdict-order levels table P, undisordered table O),
 )
 
-pub refused-holds-chain : RefusedHoldsChain
+pub refused-is-old : RefusedIsOld
 unfolding opening
-refused-holds-chain levels table n = rw (ne-eqb (openVerdict levels table) 0 n)
+refused-is-old levels table rule n = rw (ne-eqb (openVerdict levels table) 0 n)
 
--- an opening yields the house of such levels and of their table, or the house of no items with the old chain
-pub opening-cases : (P : House → Type 0) (levels table : List ℕ) → (Passable levels table → PartialOrder table → P (opened levels table)) → P (opened [] oldChain) → P (opening levels table .house)
+-- an opening yields the house of such levels, table and rule, or the house of no items with the old chain and rule A
+pub opening-cases : (P : House → Type 0) (levels table : List ℕ) (rule : Rule) → (Passable levels table → PartialOrder table → P (opened levels table rule)) → P (opened [] oldChain A) → P (opening levels table rule .house)
 unfolding opening
-opening-cases P levels table done refused =
+opening-cases P levels table rule done refused =
     elim (is (eqb (openVerdict levels table) 0)) [
       | inl y ↦ rw y (let k = opened-by levels table (eqb-true _ 0 y) in done (k .0) (k .1))
       | inr y ↦ rw y refused
     ]
 
 -- nobody stands there yet
-opened-free : (levels table : List ℕ) (p : ℕ) → p < 32 → isFree (placeAt (opened levels table .places) p .standing) ≡ true
-opened-free levels table p b = rw (opened-place levels table p b)
+opened-free : (levels table : List ℕ) (rule : Rule) (p : ℕ) → p < 32 → isFree (placeAt (opened levels table rule .places) p .standing) ≡ true
+opened-free levels table rule p b = rw (opened-place levels table rule p b)
 
-module _ (levels table : List ℕ) (few : length levels ≤ 64) (low : (i : ℕ) → i < length levels → getD levels i 0 ≤ 3) (whole : length table ≡ 16) (O : PartialOrder table) where
+module _ (levels table : List ℕ) (rule : Rule) (few : length levels ≤ 64) (low : (i : ℕ) → i < length levels → getD levels i 0 ≤ 3) (whole : length table ≡ 16) (O : PartialOrder table) where
   -- past the last byte there is 0
   low-all : (i : ℕ) → getD levels i 0 < 4
   low-all i =
@@ -122,32 +124,32 @@ module _ (levels table : List ℕ) (few : length levels ≤ 64) (low : (i : ℕ)
         | inr y ↦ rw (List·getD-eq-default levels 0 {n = i} (ltb-false i (length levels) y)) (omega arith)
       ]
 
-  opened-kept : Kept (opened levels table)
+  opened-kept : Kept (opened levels table rule)
   unfolding opened
   opened-kept =
-      kept (clear-law (opened-sizes levels table whole) (opened-free levels table) (opened-cell levels table))
+      kept (clear-law (opened-sizes levels table rule whole) (opened-free levels table rule) (opened-cell levels table rule))
       (record {
         order = O;
         count = few;
-        levels = λ i a. rw (opened-item levels table i a) (low-all i);
-        rows = λ i a c. rw (opened-item levels table i a, List·getD-eq-default levels 0 {n = i} c);
-        pending = λ i a none. opened-pending levels table i a;
-        drawn = λ p i b a w. clash w (clear-held _ (opened-cell levels table p i b a));
-        ticketless = λ p b f. rw (opened-place levels table p b);
-        named = λ p b o. clash (opened-free levels table p b) o;
-        next = λ l b. rw (opened-next levels table l b) (omega arith);
-        inside = λ p i b a c. opened-cell levels table p i b a;
+        levels = λ i a. rw (opened-item levels table rule i a) (low-all i);
+        rows = λ i a c. rw (opened-item levels table rule i a, List·getD-eq-default levels 0 {n = i} c);
+        pending = λ i a none. opened-pending levels table rule i a;
+        drawn = λ p i b a w. clash w (clear-held _ (opened-cell levels table rule p i b a));
+        ticketless = λ p b f. rw (opened-place levels table rule p b);
+        named = λ p b o. clash (opened-free levels table rule p b) o;
+        next = λ l b. rw (opened-next levels table rule l b) (omega arith);
+        inside = λ p i b a c. opened-cell levels table rule p i b a;
       })
 
 pub opening-has : OpeningHas
-opening-has levels table =
-    opening-cases Kept levels table
-    (λ P O. opened-kept levels table (P .few) (P .low) (P .whole) O)
-    (opened-kept [] oldChain (omega arith) (λ i b. omega arith) oldChain-long oldChain-ordered)
+opening-has levels table rule =
+    opening-cases Kept levels table rule
+    (λ P O. opened-kept levels table rule (P .few) (P .low) (P .whole) O)
+    (opened-kept [] oldChain A (omega arith) (λ i b. omega arith) oldChain-long oldChain-ordered)
 
-pub opening-free : (levels table : List ℕ) (p : ℕ) → p < 32 → isFree (placeAt (opening levels table .house .places) p .standing) ≡ true
-opening-free levels table = opening-cases (λ h. (p : ℕ) → p < 32 → isFree (placeAt (h .places) p .standing) ≡ true) levels table (λ P O. opened-free levels table) (opened-free [] oldChain)
+pub opening-free : (levels table : List ℕ) (rule : Rule) (p : ℕ) → p < 32 → isFree (placeAt (opening levels table rule .house .places) p .standing) ≡ true
+opening-free levels table rule = opening-cases (λ h. (p : ℕ) → p < 32 → isFree (placeAt (h .places) p .standing) ≡ true) levels table rule (λ P O. opened-free levels table rule) (opened-free [] oldChain A)
 
 -- and so after all requests
 pub reachable-has : ReachableHas
-reachable-has h R = rw (← R .comes) (finally-keeps (opening-has (R .levels) (R .table)) (R .requests))
+reachable-has h R = rw (← R .comes) (finally-keeps (opening-has (R .levels) (R .table) (R .rule)) (R .requests))

@@ -62,7 +62,7 @@ finds-its-place h R p b o q l t =
 
 pub no-answer-changes : NoAnswerChanges
 unfolding runBy finally replies
-no-answer-changes rules theirs levels table qs = runs (opening levels table .house) (opening-has levels table) qs
+no-answer-changes rules theirs levels table rule qs = runs (opening levels table rule .house) (opening-has levels table rule) qs
   where
     runs : (h : House) → Kept h → (qs : List Request) → runBy (λ h q. rules (askerInOrder h q) h q) h qs ≡ (finally h qs, replies h qs)
     runs h K [] = refl

@@ -12,16 +12,17 @@ use Rattle.house.specs.declared.Item.{Item}
 use Rattle.house.specs.declared.Mark.the-variants.{Write, Certify}
 use Rattle.house.specs.declared.Outcome.{Outcome}
 use Rattle.house.specs.declared.Request.{Request}
+use Rattle.house.specs.declared.Rule.{Rule}
 use Rattle.house.specs.Cell.{holds}
 use Rattle.house.specs.House.{itemAt}
-use Rattle.house.specs.Rules.{grown, begun, readBy, writtenBy, certifiedBy, left, committedItem, committedBy}
+use Rattle.house.specs.Rules.{grown, begun, readBy, writtenBy, wrote, certifiedBy, left, committedItem, committedBy}
 use Rattle.house.specs.Order.{oldChain}
 use Rattle.house.specs.Opening.{opened}
 use Rattle.house.specs.Run.{finally}
 use Rattle.house.proofs.Tests.{is, or-right}
 use Rattle.house.proofs.Effects.{committed-item}
 use Rattle.house.proofs.Openings.{opened-item}
-use Rattle.reach.specs.Kept.{wrote, Kept}
+use Rattle.reach.specs.Kept.{Kept}
 use Rattle.reach.specs.Sheets.{NoBlankPut, ZeroUnsaved}
 use Rattle.reach.proofs.Turns.{Turn, refused, waits, begins, reads, writes, certifies, commits, aborts, asks, turn}
 use Rattle.reach.proofs.Kept.{step-keeps}
@@ -72,10 +73,10 @@ unfolding finally
 finally-unsaved K i a u [] = u
 finally-unsaved {h} K i a u (q ∷ qs) = finally-unsaved (step-keeps h K q) i a (saved-unsaved u (turn-saves K i a (turn h q))) qs
 
-opened-unsaved : (levels table : List ℕ) (i : ℕ) → i < 64 → Unsaved (itemAt (opened levels table .items) i)
-opened-unsaved levels table i a = rw (opened-item levels table i a)
+opened-unsaved : (levels table : List ℕ) (rule : Rule) (i : ℕ) → i < 64 → Unsaved (itemAt (opened levels table rule .items) i)
+opened-unsaved levels table rule i a = rw (opened-item levels table rule i a)
 
 pub zero-unsaved : ZeroUnsaved
 zero-unsaved h R i a =
-    let first = opening-cases (λ h. Unsaved (itemAt (h .items) i)) (R .levels) (R .table) (λ P O. opened-unsaved (R .levels) (R .table) i a) (opened-unsaved [] oldChain i a) in
-    rw (← R .comes) (finally-unsaved (opening-has (R .levels) (R .table)) i a first (R .requests))
+    let first = opening-cases (λ h. Unsaved (itemAt (h .items) i)) (R .levels) (R .table) (R .rule) (λ P O. opened-unsaved (R .levels) (R .table) (R .rule) i a) (opened-unsaved [] oldChain _ i a) in
+    rw (← R .comes) (finally-unsaved (opening-has (R .levels) (R .table) (R .rule)) i a first (R .requests))

@@ -83,4 +83,4 @@ once {h} K (q ∷ qs) =
 
 pub tickets-once : TicketsOnce
 unfolding Issued
-tickets-once levels table qs = let K = opening-has levels table in (once K qs, λ l. not-again K l 0 (λ n. omega arith) qs)
+tickets-once levels table rule qs = let K = opening-has levels table rule in (once K qs, λ l. not-again K l 0 (λ n. omega arith) qs)

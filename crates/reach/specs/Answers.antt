@@ -50,7 +50,7 @@ OrderStands = (h : House) (q : Request) → map (λ x. x .0) (checks h q) ≡ or
 abbrev pub NumberStands : Type 0
 NumberStands = (h : House) (q : Request) → anyOf (eqb (stepped h q .reply .number)) (0 ∷ orderOfChecks) ≡ true
 
--- "Each has a fixed level": no request changes it, nor how many items there are, nor which levels dominate which
+-- "Each has a fixed level": no request changes it, nor how many items there are, which levels dominate which, or the rule
 abbrev pub FixedStays : Type 0
 FixedStays = (h : House) (q : Request) → fixed (stepped h q .house) ≡ fixed h
 

@@ -10,9 +10,8 @@ use Rattle.house.specs.declared.Found.the-variants.{At}
 use Rattle.house.specs.declared.House.{House}
 use Rattle.house.specs.declared.Request.{Request}
 use Rattle.house.specs.House.{itemAt}
-use Rattle.house.specs.Rules.{usesItem, noItem, holder, verdict, grown, outcome, named, stepped}
+use Rattle.house.specs.Rules.{usesItem, noItem, wrote, holder, verdict, grown, outcome, named, stepped}
 use Rattle.reach.specs.Reach.{Reachable}
-use Rattle.reach.specs.Kept.{wrote}
 
 pub record Unguarded (h : House) : Type 0 where
   -- the version of a written item grows by one, at its commit and in its writer's reads

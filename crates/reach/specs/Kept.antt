@@ -3,15 +3,17 @@
 use Prim.Native.Nat.{ℕ, _≤_, _<_}
 use mathlib.Core.Path.{_≡_}
 use mathlib.Core.Logic.{_≢_}
-use mathlib.Core.Bool.{Bool, true, false, _||_}
+use mathlib.Core.Bool.{true, false}
 use mathlib.Core.List.{List}
 use Rattle.house.specs.declared.House.{House}
 use Rattle.house.specs.declared.Mark.the-variants.{Read, Write, Certify, Signalled}
 use Rattle.house.specs.declared.Request.{Request}
+use Rattle.house.specs.declared.Rule.{Rule}
+use Rattle.house.specs.declared.Rule.the-variants.{A}
 use Rattle.house.specs.Cell.{cellAt, holds}
 use Rattle.house.specs.House.{Sizes, dominates, above, levelOf, blank, itemAt, pendingAt, placeAt, nextAt, isFree, isActive, isCertified}
 use Rattle.house.specs.Order.{PartialOrder}
-use Rattle.house.specs.Rules.{stepped}
+use Rattle.house.specs.Rules.{wrote, stepped}
 use Rattle.house.specs.Opening.{opening}
 use Rattle.reach.specs.Reach.{Reachable}
 
@@ -22,10 +24,6 @@ Open h p = isFree (placeAt (h .places) p .standing) ≡ false
 -- ticket t of level l has been given out: it is below the next one, or none is left
 unfoldable pub Issued : House → ℕ → ℕ → Type 0
 Issued h l t = nextAt (h .next) l ≢ 0 → t < nextAt (h .next) l
-
--- the transaction at place p has written item i: it holds write on it or, once certified, certify
-unfoldable pub wrote : List ℕ → ℕ → ℕ → Bool
-wrote cells p i = holds cells Write p i || holds cells Certify p i
 
 -- Items are i < 64 and places p, r < 32 throughout
 pub record Kept (h : House) : Type 0 where
@@ -71,8 +69,8 @@ pub record Kept (h : House) : Type 0 where
   pub certifying : (p i : ℕ) → p < 32 → i < 64 → holds (h .cells) Certify p i ≡ true → isCertified (placeAt (h .places) p .standing) ≡ true
   -- an item on which one holds certify has no other reader at its level, only such as are above it
   pub higher : (p r i : ℕ) → p < 32 → r < 32 → i < 64 → r ≢ p → holds (h .cells) Certify p i ≡ true → holds (h .cells) Read r i ≡ true → above (h .order) (levelOf r) (levelOf p) ≡ true
-  -- and each of them is signalled
-  pub warned : (p r i : ℕ) → p < 32 → r < 32 → i < 64 → r ≢ p → holds (h .cells) Certify p i ≡ true → holds (h .cells) Read r i ≡ true → holds (h .cells) Signalled r i ≡ true
+  -- and, where a certify gives the signals, each of them is signalled
+  pub warned : h .rule ≡ A → (p r i : ℕ) → p < 32 → r < 32 → i < 64 → r ≢ p → holds (h .cells) Certify p i ≡ true → holds (h .cells) Read r i ≡ true → holds (h .cells) Signalled r i ≡ true
   -- whoever is signalled has a read lock there
   pub heard : (p i : ℕ) → p < 32 → i < 64 → holds (h .cells) Signalled p i ≡ true → holds (h .cells) Read p i ≡ true
   -- a written item's version can grow
@@ -82,7 +80,7 @@ pub record Kept (h : House) : Type 0 where
 
 -- an opening yields such a house, and a request leads from such a house to such a house
 abbrev pub OpeningHas : Type 0
-OpeningHas = (levels table : List ℕ) → Kept (opening levels table .house)
+OpeningHas = (levels table : List ℕ) (rule : Rule) → Kept (opening levels table rule .house)
 
 abbrev pub StepKeeps : Type 0
 StepKeeps = (h : House) → Kept h → (q : Request) → Kept (stepped h q .house)

@@ -1,5 +1,5 @@
 -- When an opening gets which number, in numbers and in the laws of an order, and what a refused one holds. Of all levels and tables, lists
--- of any bytes and any lengths.
+-- of any bytes and any lengths, and of either rule.
 -- Assumes nothing.
 use Prim.Native.Nat.{ℕ, _≤_, _<_}
 use mathlib.Core.Path.{_≡_}
@@ -8,6 +8,8 @@ use mathlib.Core.Bool.{true}
 use mathlib.Core.List.{List, [], _∷_}
 use lib.ListN.{length, getD}
 use lib.Dec.{eqb}
+use Rattle.house.specs.declared.Rule.{Rule}
+use Rattle.house.specs.declared.Rule.the-variants.{A}
 use Rattle.house.specs.Search.{anyOf}
 use Rattle.house.specs.Order.{PartialOrder, oldChain}
 use Rattle.house.specs.Opening.{opened, opening}
@@ -23,22 +25,22 @@ pub record Passable (levels table : List ℕ) : Type 0 where
 
 -- the number of an opening is one of these
 abbrev pub OpeningStands : Type 0
-OpeningStands = (levels table : List ℕ) → anyOf (eqb (opening levels table .number)) (0 ∷ 13 ∷ 14 ∷ 16 ∷ []) ≡ true
+OpeningStands = (levels table : List ℕ) (rule : Rule) → anyOf (eqb (opening levels table rule .number)) (0 ∷ 13 ∷ 14 ∷ 16 ∷ []) ≡ true
 
 -- "A byte above 1, or a table not reflexive, antisymmetric and transitive, gives 16, after 13 and 14" (CR 6), and nothing else does
 abbrev pub SixteenExactly : Type 0
 SixteenExactly =
-    (levels table : List ℕ)
-    → (opening levels table .number ≡ 16 → Passable levels table × (¬ PartialOrder table))
-    × (Passable levels table → ¬ PartialOrder table → opening levels table .number ≡ 16)
+    (levels table : List ℕ) (rule : Rule)
+    → (opening levels table rule .number ≡ 16 → Passable levels table × (¬ PartialOrder table))
+    × (Passable levels table → ¬ PartialOrder table → opening levels table rule .number ≡ 16)
 
--- what gets none of these numbers is opened, with its levels and its table
+-- what gets none of these numbers is opened, with its levels, its table and its rule
 abbrev pub OpenedExactly : Type 0
 OpenedExactly =
-    (levels table : List ℕ)
-    → (opening levels table .number ≡ 0 → Passable levels table × PartialOrder table × (opening levels table .house ≡ opened levels table))
-    × (Passable levels table → PartialOrder table → opening levels table .number ≡ 0)
+    (levels table : List ℕ) (rule : Rule)
+    → (opening levels table rule .number ≡ 0 → Passable levels table × PartialOrder table × (opening levels table rule .house ≡ opened levels table rule))
+    × (Passable levels table → PartialOrder table → opening levels table rule .number ≡ 0)
 
--- and a refused opening "holds the old chain" (CR 6), in the house of no items
-abbrev pub RefusedHoldsChain : Type 0
-RefusedHoldsChain = (levels table : List ℕ) → opening levels table .number ≢ 0 → opening levels table .house ≡ opened [] oldChain
+-- and a refused opening "holds the old chain" (CR 6) and takes rule A (CR 7), in the house of no items
+abbrev pub RefusedIsOld : Type 0
+RefusedIsOld = (levels table : List ℕ) (rule : Rule) → opening levels table rule .number ≢ 0 → opening levels table rule .house ≡ opened [] oldChain A

@@ -10,6 +10,7 @@ use Rattle.house.specs.declared.Outcome.{Outcome}
 use Rattle.house.specs.declared.Place.{Place}
 use Rattle.house.specs.declared.Reply.{Reply}
 use Rattle.house.specs.declared.Request.{Request}
+use Rattle.house.specs.declared.Rule.{Rule}
 use Rattle.house.specs.Search.{find}
 use Rattle.house.specs.House.{levelOf, placeAt, hasTicket}
 use Rattle.house.specs.Rules.{asker, stepped}
@@ -49,6 +50,6 @@ abbrev pub NoAnswerChanges : Type 0
 NoAnswerChanges =
     (rules : Found → House → Request → Outcome)
     → ((h : House) (q : Request) → rules (asker h q) h q ≡ stepped h q)
-    → (levels table : List ℕ) (qs : List Request)
-    → let h = opening levels table .house in
+    → (levels table : List ℕ) (rule : Rule) (qs : List Request)
+    → let h = opening levels table rule .house in
     runBy (λ h q. rules (askerInOrder h q) h q) h qs ≡ (finally h qs, replies h qs)

@@ -5,6 +5,7 @@ use mathlib.Core.Path.{_≡_}
 use mathlib.Core.Bool.{Bool, true, false, cond}
 use mathlib.Core.List.{List, [], _∷_}
 use Rattle.house.specs.declared.Request.{Request}
+use Rattle.house.specs.declared.Rule.{Rule}
 use Rattle.house.specs.Search.{anyOf, distinct}
 use Rattle.house.specs.Rules.{begin}
 use Rattle.house.specs.Opening.{opening}
@@ -22,4 +23,4 @@ among n = anyOf (sameName n)
 -- THE STATEMENT, proved in proofs/Tickets.antt: from any opening, refused ones too, whatever is asked, no name is given twice, and
 -- ticket 0 is given at no level
 abbrev pub TicketsOnce : Type 0
-TicketsOnce = (levels table : List ℕ) (qs : List Request) → let names = given (trace (opening levels table .house) qs) in (distinct sameName names ≡ true) × ((l : ℕ) → among (l, 0) names ≡ false)
+TicketsOnce = (levels table : List ℕ) (rule : Rule) (qs : List Request) → let names = given (trace (opening levels table rule .house) qs) in (distinct sameName names ≡ true) × ((l : ℕ) → among (l, 0) names ≡ false)

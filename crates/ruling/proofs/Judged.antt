@@ -18,6 +18,7 @@ use Rattle.house.specs.declared.Item.{Item}
 use Rattle.house.specs.declared.Mark.the-variants.{Write}
 use Rattle.house.specs.declared.Place.{Place}
 use Rattle.house.specs.declared.Request.{Request}
+use Rattle.house.specs.declared.Rule.the-variants.{A}
 use Rattle.house.specs.Checks.{foremost}
 use Rattle.house.specs.Search.{scan, any, find, findFirst, onRound, findRound, ifFound, nobody}
 use Rattle.house.specs.Cell.{holds}
@@ -243,6 +244,7 @@ module _ (v : View) (cells : List ℕ) (q : Request) where
       record {
         count = v .count;
         order = v .order;
+        rule = A;
         items = replicate (q .item) blank ++ v .row ∷ [];
         pending = replicate (q .item) 0 ++ v .pending ∷ [];
         places = replicate (q .level * 8) vacant ++ v .eight;

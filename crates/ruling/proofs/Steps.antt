@@ -94,7 +94,7 @@ effect-sizes z (Read me i) = read-sizes z me i
 effect-sizes z (Write me i v) = written-sizes z me i v
 effect-sizes z (Certify me) = certified-sizes z me
 effect-sizes z (End me true) = committed-sizes z me
-effect-sizes z (End me false) = left-sizes z me
+effect-sizes z (End me false) = left-sizes z _ me (z .cells)
 
 pub stepped-sizes : (h : House) → Sizes h → (q : Request) → Sizes (stepped h q .house)
 stepped-sizes h z q = rw (ruled-steps h q) (effect-sizes z (changeOf (ruled h q)))

@@ -9,6 +9,7 @@ use lib.ListN.{getD}
 use lib.Dec.{eqb}
 use Rattle.house.specs.declared.House.{House}
 use Rattle.house.specs.declared.Request.{Request}
+use Rattle.house.specs.declared.Rule.{Rule}
 use Rattle.house.specs.Rules.{commit, stepped}
 use Rattle.house.specs.Opening.{opening}
 use Rattle.house.specs.Run.{finally, done, Name}
@@ -34,10 +35,11 @@ untouched-known U =
       closed = tt;
     }
 
-pub opening-untouched : (levels table : List ℕ) → Untouched (opening levels table .house)
-opening-untouched levels table =
-    let K = opening-has levels table in
-    record { sizes = K .sizes; free = opening-free levels table; clear = λ p i b a. K .idle p i b a (opening-free levels table p b) }
+pub opening-untouched : (levels table : List ℕ) (rule : Rule) → Untouched (opening levels table rule .house)
+opening-untouched levels table rule =
+    let K = opening-has levels table rule in
+    let free = opening-free levels table rule in
+    record { sizes = K .sizes; free = free; clear = λ p i b a. K .idle p i b a (free p b) }
 
 -- and where it comes to: the past is the trace, turned round
 known : {t : Table} {h : House} {past : Past} → Known t h past → (qs : List Request) → Known t (finally h qs) (reverseAux (trace h qs) past)
@@ -152,7 +154,7 @@ untouched-demand h U qs =
     rw r (serially-past (table h) _ past past (I .closed) (I .repeats) ∙ ap (λ x. (map (λ n. answers (work n (reverse past))) (commits (reverse past)), x)) (I .ends))
 
 pub demand : OfOpened
-demand levels table qs = untouched-demand (opening levels table .house) (opening-untouched levels table) qs
+demand levels table rule qs = untouched-demand (opening levels table rule .house) (opening-untouched levels table rule) qs
 
 -- Requests that come in two parts
 

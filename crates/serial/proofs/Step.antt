@@ -15,7 +15,7 @@ use Rattle.house.specs.declared.Outcome.{Outcome}
 use Rattle.house.specs.declared.Reply.{Reply}
 use Rattle.house.specs.declared.Request.{Request}
 use Rattle.house.specs.House.{levelOf, placeAt, nextAt}
-use Rattle.house.specs.Rules.{read, write, commit, ticketAfter, begun, readBy, readFor, writtenBy, certifiedBy, left, committedBy, abortedBy, askAnswer, replied, stepped}
+use Rattle.house.specs.Rules.{read, write, commit, ticketAfter, begun, readBy, readFor, writtenBy, signalled, certifiedBy, left, committedBy, abortedBy, askAnswer, replied, stepped}
 use Rattle.house.specs.Run.{done}
 use Rattle.house.proofs.Tests.{same, clash}
 use Rattle.house.proofs.Places.{Seated}
@@ -212,7 +212,7 @@ module _ {t : Table} {h : House} {past : Past} (I : Known t h past) (q : Request
       unfolding quiet left
       abort-known o =
           let m = S .within .place in
-          let free = freed (I .law) m in
+          let free = freed (I .law .sizes) (h .cells) me m in
           calm I (abort-frame (I .law) m) (abort-own (I .law) m) m _ (λ x. clash free x) (rw o) (rw o) (λ x. clash free x) (I .unheard) (abort-table h me)
 
       -- after its commit a transaction is gone
@@ -226,7 +226,7 @@ module _ {t : Table} {h : House} {past : Past} (I : Known t h past) (q : Request
             issued = F .issued _ _ (rw (lv, S .ticket) at (I .law .issued me m (S .taken)));
             nobody = λ p b x y z.
                 elim (same p me) [
-                  | inl w ↦ clash (freed (I .law) m) (rw w at x)
+                  | inl w ↦ clash (freed (I .law .sizes) (signalled commit h me) me m) (rw w at x)
                   | inr n ↦ n (I .law .apart p me b m (rw (F .place p b n) at x) (S .taken) (y ∙ sym lv) ((rw (F .place p b n) at z) ∙ sym (S .ticket)))
                 ];
           }
@@ -236,7 +236,7 @@ module _ {t : Table} {h : House} {past : Past} (I : Known t h past) (q : Request
       commit-known o K =
           let m = K .place in
           let e : Event = (q, replied q Done) in
-          let free = freed (I .law) m in
+          let free = freed (I .law .sizes) (signalled commit h me) me m in
           let told = I .told me m (S .taken) in
           let mine : doings (q .level, q .ticket) past ≡ own h past me = rw (S .within .level, S .ticket) in
           assembled I (commit-frame (I .law) m) (commit-own (I .law) m) m e (λ x. clash free x) (λ l n g. doing-quiet (l, n) e (rw o))

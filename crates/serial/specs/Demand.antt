@@ -10,6 +10,7 @@ use lib.Dec.{eqb}
 use Rattle.house.specs.declared.House.{House}
 use Rattle.house.specs.declared.Item.{Item}
 use Rattle.house.specs.declared.Request.{Request}
+use Rattle.house.specs.declared.Rule.{Rule}
 use Rattle.house.specs.Search.{mapFrom}
 use Rattle.house.specs.Cell.{cellAt}
 use Rattle.house.specs.House.{Sizes, placeAt, isFree}
@@ -103,10 +104,11 @@ pub record Untouched (h : House) : Type 0 where
   pub free : (p : ℕ) → p < 32 → isFree (placeAt (h .places) p .standing) ≡ true
   pub clear : (p i : ℕ) → p < 32 → i < 64 → cellAt (h .cells) p i ≡ 0
 
--- THE STATEMENTS, proved in proofs/Demand.antt: of every untouched house, and of every opened one, refused openings included
+-- THE STATEMENTS, proved in proofs/Demand.antt: of every untouched house, and of every opened one, under either rule,
+-- refused openings included
 
 abbrev pub OfUntouched : Type 0
 OfUntouched = (h : House) → Untouched h → (qs : List Request) → Demand3 h qs
 
 abbrev pub OfOpened : Type 0
-OfOpened = (levels table : List ℕ) (qs : List Request) → Demand3 (opening levels table .house) qs
+OfOpened = (levels table : List ℕ) (rule : Rule) (qs : List Request) → Demand3 (opening levels table rule .house) qs

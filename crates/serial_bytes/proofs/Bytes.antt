@@ -93,6 +93,6 @@ events-asked h (c ∷ cs) f b =
 
 pub over-bytes : OverBytes
 unfolding Demand3OverBytes Demand3
-over-bytes levels order cs b =
-    let h = opening levels order .house in
-    rw (events-asked h cs (opening-fits levels order) b, calls-are-requests h cs .1) (demand levels order (askedBy cs))
+over-bytes levels order rule cs b =
+    let h = opening levels order rule .house in
+    rw (events-asked h cs (opening-fits levels order rule) b, calls-are-requests h cs .1) (demand levels order rule (askedBy cs))

@@ -10,6 +10,8 @@ use lib.Dec.{eqb}
 use borrow.Author.Tests.{eqb-false, ne-eqb}
 use Rattle.house.specs.declared.House.{House}
 use Rattle.house.specs.declared.Item.{Item}
+use Rattle.house.specs.declared.Rule.{Rule}
+use Rattle.house.specs.declared.Rule.the-variants.{A}
 use Rattle.house.specs.Search.{mapFrom}
 use Rattle.house.specs.House.{blank}
 use Rattle.house.specs.Order.{oldChain}
@@ -43,12 +45,12 @@ unfolding mapFrom rowAt
 rows-blank levels k [] = refl
 rows-blank levels k (x ∷ xs) = ap (λ t. (0, 0) ∷ t) (rows-blank levels (suc k) xs)
 
-opened-blank : (levels order : List ℕ) → table (opened levels order) ≡ blankTable
+opened-blank : (levels order : List ℕ) (rule : Rule) → table (opened levels order rule) ≡ blankTable
 unfolding opened rows
-opened-blank levels order = rows-blank levels 0 (replicate 64 blank)
+opened-blank levels order rule = rows-blank levels 0 (replicate 64 blank)
 
-opening-blank : (levels order : List ℕ) → table (opening levels order .house) ≡ blankTable
-opening-blank levels order = opening-cases (λ h. table h ≡ blankTable) levels order (λ P O. opened-blank levels order) (opened-blank [] oldChain)
+opening-blank : (levels order : List ℕ) (rule : Rule) → table (opening levels order rule .house) ≡ blankTable
+opening-blank levels order rule = opening-cases (λ h. table h ≡ blankTable) levels order rule (λ P O. opened-blank levels order rule) (opened-blank [] oldChain A)
 
 -- NOBODY COMMITTED
 
@@ -67,21 +69,21 @@ one-reply : (n k : ℕ) → min k (length (refusal n) / 16) ≤ 1
 unfolding refusal replyBytes
 one-reply n k = omega arith
 
-refused-equal : (input : List ℕ) (n : ℕ) (levels order : List ℕ) → n ≢ 0 → Equal (seen input (refusal n)) (opening levels order .house)
+refused-equal : (input : List ℕ) (n : ℕ) (levels order : List ℕ) → n ≢ 0 → Equal (seen input (refusal n)) (opening levels order A .house)
 unfolding seen
-refused-equal input n levels order d = idle _ (opening levels order .house) (refused-idle _ n _ d (one-reply n _)) (opening-blank levels order)
+refused-equal input n levels order d = idle _ (opening levels order A .house) (refused-idle _ n _ d (one-reply n _)) (opening-blank levels order A)
 
 -- THE OPENING WAS DONE
 
-opened-equal : (input levels order : List ℕ) → Bytes input → let h = opening levels order .house in Equal (seen input (runOf h (pastOpening input) .0)) (runOf h (pastOpening input) .1)
+opened-equal : (input levels order : List ℕ) → Bytes input → let h = opening levels order A .house in Equal (seen input (runOf h (pastOpening input) .0)) (runOf h (pastOpening input) .1)
 unfolding seen runOf Demand3
 opened-equal input levels order s =
-    let h = opening levels order .house in
+    let h = opening levels order A .house in
     let asked = pastOpening input in
     let n = length asked / 12 in
     let all : min n (length (wired (replies h (requests n asked))) / 16) ≡ n = rw (length-wired h n asked) (omega arith) in
-    let t : exchanged (requests n asked) (wired (replies h (requests n asked))) ≡ trace h (requests n asked) = rw (append-nil (wired (replies h (requests n asked)))) at (turn-trace n h asked [] (opening-fits levels order) (bytes-drop (header input) input s)) in
-    rw (all, t, sym (opening-blank levels order)) (demand levels order (requests n asked))
+    let t : exchanged (requests n asked) (wired (replies h (requests n asked))) ≡ trace h (requests n asked) = rw (append-nil (wired (replies h (requests n asked)))) at (turn-trace n h asked [] (opening-fits levels order A) (bytes-drop (header input) input s)) in
+    rw (all, t, sym (opening-blank levels order A)) (demand levels order A (requests n asked))
 
 -- THE THEOREM
 

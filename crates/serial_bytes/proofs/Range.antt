@@ -4,7 +4,7 @@ use Prim.Native.Nat.{ℕ, zero, suc, _<_, _≤_}
 use native.Mathlib.Omega.{arith}
 use mathlib.Core.Path.{_≡_, refl}
 use mathlib.Core.Logic.{_≢_, inl, inr}
-use mathlib.Core.Bool.{Bool, _||_}
+use mathlib.Core.Bool.{Bool}
 use mathlib.Core.List.{List, []}
 use lib.ListN.{length, getD}
 use lib.Dec.{ltb}
@@ -16,10 +16,12 @@ use Rattle.house.specs.declared.Item.{Item}
 use Rattle.house.specs.declared.Mark.the-variants.{Write, Certify, Signalled}
 use Rattle.house.specs.declared.Outcome.{Outcome}
 use Rattle.house.specs.declared.Request.{Request}
+use Rattle.house.specs.declared.Rule.{Rule}
+use Rattle.house.specs.declared.Rule.the-variants.{A}
 use Rattle.house.specs.Search.{scan, count, ifFound}
 use Rattle.house.specs.Cell.{holds, firstSignalled, countSignalled}
 use Rattle.house.specs.House.{Sizes, itemAt, pendingAt, placeAt, nextAt}
-use Rattle.house.specs.Rules.{ticketAfter, grown, begun, readBy, readAnswer, readFor, writtenBy, certifiedBy, droppedPending, left, committedItem, committedBy, abortedBy, askAnswer, said, replied, stepped}
+use Rattle.house.specs.Rules.{commit, ticketAfter, grown, begun, readBy, readAnswer, readFor, writtenBy, wrote, signalled, certifiedBy, droppedPending, left, committedItem, committedBy, askAnswer, said, replied, stepped}
 use Rattle.house.specs.Order.{oldChain}
 use Rattle.house.specs.Opening.{opened, opening}
 use Rattle.house.proofs.Tests.{is, same}
@@ -27,7 +29,7 @@ use Rattle.house.proofs.Searches.{find-below}
 use Rattle.house.proofs.Holders.{holder-at}
 use Rattle.house.proofs.Levels.{oldChain-long}
 use Rattle.house.proofs.Openings.{opened-sizes, opened-item, opened-pending, opened-place, opened-next}
-use Rattle.house.proofs.Effects.{begun-sizes, begun-next, begun-next-other, begun-place, begun-place-other, certified-place, certified-place-other, left-place, left-place-other, read-sizes, written-sizes, written-pending, written-pending-other, certified-sizes, left-sizes, left-pending, committed-sizes, committed-item}
+use Rattle.house.proofs.Effects.{begun-sizes, begun-next, begun-next-other, begun-place, begun-place-other, signalled-long, certified-place, certified-place-other, left-place, left-place-other, read-sizes, written-sizes, written-pending, written-pending-other, certified-sizes, left-sizes, left-pending, committed-sizes, committed-item}
 use Rattle.wire.specs.Wire.{requestAt}
 use Rattle.wire.specs.RoundTrip.{FitRequest, FitReply}
 use Rattle.reach.proofs.Turns.{Turn, turn, refused, waits, begins, reads, writes, certifies, commits, aborts, asks}
@@ -73,7 +75,7 @@ item-fits cells pending me i x v f =
 
 dropped-fits : (cells : List ℕ) (me i v : ℕ) → v < 4294967296 → droppedPending cells me i v < 4294967296
 unfolding droppedPending
-dropped-fits cells me i v b = elim (is (holds cells Write me i || holds cells Certify me i)) [ inl y ↦ rw y (omega arith) | inr n ↦ rw n b ]
+dropped-fits cells me i v b = elim (is (wrote cells me i)) [ inl y ↦ rw y (omega arith) | inr n ↦ rw n b ]
 
 module _ {h : House} (f : Fits h) where
   -- one place changed
@@ -117,20 +119,20 @@ module _ {h : House} (f : Fits h) where
         next = f .next;
       }
 
-  aborted-fits : (me : ℕ) → me < 32 → Fits (abortedBy h me)
+  left-fits : (cells : List ℕ) → length cells ≡ 2048 → (me : ℕ) → me < 32 → Fits (left cells h me)
   unfolding left
-  aborted-fits me m =
+  left-fits cells long me m =
       record {
-        sizes = left-sizes (f .sizes) me;
+        sizes = left-sizes (f .sizes) cells me long;
         items = f .items;
-        pending = λ i a. rw (left-pending (f .sizes) me i a) (dropped-fits (h .cells) me i _ (f .pending i a));
-        tickets = tickets-fit (left h me) me (rw (left-place (f .sizes) me m) (omega arith)) (left-place-other h me);
+        pending = λ i a. rw (left-pending (f .sizes) cells me i a) (dropped-fits (h .cells) me i _ (f .pending i a));
+        tickets = tickets-fit (left cells h me) me (rw (left-place (f .sizes) cells me m) (omega arith)) (left-place-other h cells me);
         next = f .next;
       }
 
   committed-fits : (me : ℕ) → me < 32 → Fits (committedBy h me)
   committed-fits me m =
-      let g = aborted-fits me m in
+      let g = left-fits (signalled commit h me) (signalled-long (f .sizes) commit me) me m in
       record {
         sizes = committed-sizes (f .sizes) me;
         items = λ i a. rw (committed-item (f .sizes) me i a) (item-fits (h .cells) (h .pending) me i (itemAt (h .items) i) (f .pending i a) (f .items i a));
@@ -172,7 +174,7 @@ module _ {h : House} (f : Fits h) (q : Request) (k : FitRequest q) where
   turn-fits o (writes me z s m) = (written-fits f me (q .item) (q .value) (m .row) (k .value), plain 0)
   turn-fits o (certifies me z s m) = (certified-fits f me (m .place), plain 0)
   turn-fits o (commits me z s m) = (committed-fits f me (m .place), plain 0)
-  turn-fits o (aborts me z s) = (aborted-fits f me (s .seated .within .place), plain 0)
+  turn-fits o (aborts me z s) = (left-fits f (h .cells) (f .sizes .cells) me (s .seated .within .place), plain 0)
   turn-fits o (asks me z s) = (f, record { item = first-fits (h .cells) me _ refl; ticket = k .ticket; value = omega (arith, count-fits (holds (h .cells) Signalled me) 0 64); version = omega arith })
 
 pub step-fits : {h : House} → Fits h → (q : Request) → FitRequest q → Fits (stepped h q .house) × FitReply (stepped h q .reply)
@@ -180,17 +182,17 @@ step-fits {h} f q k = turn-fits f q k (stepped h q) (turn h q)
 
 -- Where it starts, and what is asked
 
-pub opening-fits : (levels order : List ℕ) → Fits (opening levels order .house)
-opening-fits levels order = opening-cases Fits levels order (λ P O. opened-fits levels order (P .whole)) (opened-fits [] oldChain oldChain-long)
+pub opening-fits : (levels order : List ℕ) (rule : Rule) → Fits (opening levels order rule .house)
+opening-fits levels order rule = opening-cases Fits levels order rule (λ P O. opened-fits levels order rule (P .whole)) (opened-fits [] oldChain A oldChain-long)
   where
-    opened-fits : (l o : List ℕ) → length o ≡ 16 → Fits (opened l o)
-    opened-fits l o z =
+    opened-fits : (l o : List ℕ) (r : Rule) → length o ≡ 16 → Fits (opened l o r)
+    opened-fits l o r z =
         record {
-          sizes = opened-sizes l o z;
-          items = λ i a. rw (opened-item l o i a) (record { value = omega arith; version = omega arith });
-          pending = λ i a. rw (opened-pending l o i a) (omega arith);
-          tickets = λ p b. rw (opened-place l o p b) (omega arith);
-          next = λ k b. rw (opened-next l o k b) (omega arith);
+          sizes = opened-sizes l o r z;
+          items = λ i a. rw (opened-item l o r i a) (record { value = omega arith; version = omega arith });
+          pending = λ i a. rw (opened-pending l o r i a) (omega arith);
+          tickets = λ p b. rw (opened-place l o r p b) (omega arith);
+          next = λ k b. rw (opened-next l o r k b) (omega arith);
         }
 
 pub request-fits : (b : List ℕ) → ((k : ℕ) → getD b k 0 < 256) → FitRequest (requestAt b 0)

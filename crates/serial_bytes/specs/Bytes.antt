@@ -7,6 +7,7 @@ use mathlib.Core.List.{List, [], _∷_, _++_, map}
 use lib.ListN.{getD, drop}
 use Rattle.house.specs.declared.House.{House}
 use Rattle.house.specs.declared.Request.{Request}
+use Rattle.house.specs.declared.Rule.{Rule}
 use Rattle.house.specs.Opening.{opening}
 use Rattle.wire.specs.Wire.{replyAt}
 use Rattle.maps.specs.Calls.{Call, byTurn, byMap, asked, reported, told, afterCalls}
@@ -42,6 +43,6 @@ Demand3OverBytes h cs =
     let es = events h cs in
     serially (table h) (map (λ n. work n es) (commits es)) ≡ (map (λ n. answers (work n es)) (commits es), table (afterCalls h cs))
 
--- THE STATEMENT: of every opened house, refused openings included; whatever each turn and each map is given
+-- THE STATEMENT: of every opened house, under either rule, refused openings included; whatever each turn and each map is given
 abbrev pub OverBytes : Type 0
-OverBytes = (levels order : List ℕ) (cs : List Call) → InBytes cs → Demand3OverBytes (opening levels order .house) cs
+OverBytes = (levels order : List ℕ) (rule : Rule) (cs : List Call) → InBytes cs → Demand3OverBytes (opening levels order rule .house) cs

@@ -1,5 +1,5 @@
 -- Demand 3 on a small day: both sides of its equation, worked out. Items 0 and 1 at level 0, item 2 at level 2, in the order of
--- the diamond.
+-- the diamond, under rule A.
 -- Assumes nothing.
 use Prim.Native.Nat.{ℕ}
 use mathlib.Core.Path.{_≡_}
@@ -7,6 +7,7 @@ use mathlib.Core.List.{List, [], _∷_, map}
 use lib.ListN.{take}
 use Rattle.house.specs.declared.House.{House}
 use Rattle.house.specs.declared.Request.{Request}
+use Rattle.house.specs.declared.Rule.the-variants.{A}
 use Rattle.house.specs.Rules.{begin, read, write, certify, commit, abort}
 use Rattle.house.specs.Order.{diamond}
 use Rattle.house.specs.Opening.{opening}
@@ -62,7 +63,7 @@ day =
     ∷ []
 
 abbrev pub start : House
-start = opening (0 ∷ 0 ∷ 2 ∷ []) diamond .house
+start = opening (0 ∷ 0 ∷ 2 ∷ []) diamond A .house
 
 abbrev pub requests : List Request
 requests = map (λ e. e .0) day

@@ -2,7 +2,7 @@
 -- proofs/Whole.antt).
 -- Assumes nothing.
 use Prim.Native.Nat.{ℕ}
-use mathlib.Core.Bool.{cond, _&&_}
+use mathlib.Core.Bool.{Bool, cond, _&&_}
 use mathlib.Core.List.{List}
 use lib.Dec.{eqb, ltb}
 use Rattle.house.specs.declared.Mark.the-variants.{Read, Signalled}
@@ -20,6 +20,6 @@ swept f cells = mapCells (ofHouse f) cells
 unfoldable pub onItem : ℕ → (ℕ → ℕ → ℕ) → ℕ → ℕ → ℕ → ℕ
 onItem i f p j c = cond (eqb j i) (f p c) c
 
--- the cell c of place p: a read lock held from level l is marked signalled
-unfoldable pub signalledFrom : ℕ → ℕ → ℕ → ℕ
-signalledFrom l p c = cond (eqb (levelOf p) l && has Read c) (marked Signalled c) c
+-- the cell c of place p: a read lock held from a level that has f is marked signalled
+unfoldable pub signalledFrom : (ℕ → Bool) → ℕ → ℕ → ℕ
+signalledFrom f p c = cond (f (levelOf p) && has Read c) (marked Signalled c) c

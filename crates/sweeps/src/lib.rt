@@ -1,23 +1,24 @@
-// What a change does to the cells, where they lie, and to the two versions of the items: one mark, and four sweeps, for the
+// What a change does to the cells, where they lie, and to the two versions of the items: one mark, and five sweeps, for the
 // transaction at place `me`.
 // Any number names a place and an item: it is taken modulo 32 and 64, as the desk takes the level and the item of a request.
 
 ghost use mathlib.Core.Path.{_≡_};
-ghost use mathlib.Core.Bool.{cond, _||_};
+ghost use mathlib.Core.Bool.{false, cond, _||_};
+ghost use mathlib.Core.List.{[], _∷_, map};
 ghost use Prim.Native.Nat.{_<_, _%_};
 ghost use lib.ListN.{getD};
+ghost use lib.Dec.{eqb};
 ghost use Rattle.house.specs.declared.Mark.the-variants.{Read, Write, Certify, Signalled};
 ghost use Rattle.house.specs.Search.{any, mapFrom};
-ghost use Rattle.house.specs.Cell.{has, marked, withMark, holds};
+ghost use Rattle.house.specs.Cell.{has, marked, unmarked, withMark};
 ghost use Rattle.house.specs.House.{above, levelOf};
-ghost use Rattle.house.specs.Rules.{signalledCell, convertedCell, certifiedCell, clearedCell, committedItem, droppedPending, grown};
+ghost use Rattle.house.specs.Rules.{wrote, signalledCell, convertedCell, clearedCell, committedItem, droppedPending, grown};
 ghost use Rattle.sweeps.specs.Sweep.{swept, onItem, signalledFrom};
 use house::Item;
 use house::Mark;
 use parts::dominates;
 use parts::grow;
 use parts::has_mark;
-use parts::holds_any;
 use parts::with_mark;
 use parts::without_mark;
 
@@ -42,7 +43,7 @@ fn signal(c: u8) -> u8
 // The places of a level are eight in a row.
 fn signal_level(cells: &mut [u8; 2048], l: usize, i: usize)
     requires { ⌜ (l < 4) × (i < 64) ⌝ }
-    ensures { λ r. ⌜ now (cells .exit) ≡ swept (onItem i (signalledFrom l)) (now (cells .entry)) ⌝ }
+    ensures { λ r. ⌜ now (cells .exit) ≡ swept (onItem i (signalledFrom (eqb l))) (now (cells .entry)) ⌝ }
 {
     for k in 0..8 {
         let n = (l * 8 + k) * 64 + i;
@@ -60,49 +61,87 @@ fn is_above(order: [u8; 16], l: usize, me: usize) -> bool
     dominates(order, a, b) & (a != b)
 }
 
-// The order is looked up once for a level, and the cells of the levels above are all that is looked at.
-fn signal_item(cells: &mut [u8; 2048], order: [u8; 16], me: usize, i: usize)
-    requires { ⌜ (me < 32) × (i < 64) ⌝ }
-    ensures { λ r. ⌜ now (cells .exit) ≡ swept (onItem i (signalledCell order me)) (now (cells .entry)) ⌝ }
+// The levels above that of the place.
+fn levels_above(order: [u8; 16], me: usize) -> [bool; 4]
+    requires { ⌜ me < 32 ⌝ }
+    ensures { λ r. ⌜ r ≡ map (λ l. above order l (levelOf me)) (0 ∷ 1 ∷ 2 ∷ 3 ∷ []) ⌝ }
+{
+    let a0 = is_above(order, 0, me);
+    let a1 = is_above(order, 1, me);
+    let a2 = is_above(order, 2, me);
+    let a3 = is_above(order, 3, me);
+    [a0, a1, a2, a3]
+}
+
+// The cells of the levels above are all that is looked at.
+fn signal_item(cells: &mut [u8; 2048], over: [bool; 4], i: usize)
+    requires { ⌜ i < 64 ⌝ }
+    ensures { λ r. ⌜ now (cells .exit) ≡ swept (onItem i (signalledFrom (λ l. getD over l false))) (now (cells .entry)) ⌝ }
 {
     for l in 0..4 {
-        if is_above(order, l, me) {
+        if over[l] {
             signal_level(cells, l, i);
         }
     }
 }
 
-fn certify_item(cells: &mut [u8; 2048], order: [u8; 16], me: usize, i: usize)
-    requires { ⌜ (me < 32) × (i < 64) ⌝ }
-    ensures { λ r. ⌜ now (cells .exit) ≡ swept (onItem i (convertedCell order me)) (now (cells .entry)) ⌝ }
+// The item of that cell is written, by the transaction whose cell it is.
+fn is_written(c: u8) -> bool
+    ensures { λ r. ⌜ r ≡ (has Write c || has Certify c) ⌝ }
 {
-    let n = me * 64 + i;
-    let c = cells[n];
-    cells[n] = with_mark(Mark::Certify, without_mark(Mark::Write, c));
-    signal_item(cells, order, me, i);
+    has_mark(Mark::Write, c) | has_mark(Mark::Certify, c)
 }
 
-// The cell at n is the place's own.
-fn is_marked(cells: &[u8; 2048], m: Mark, n: usize) -> bool
-    requires { ⌜ n < 2048 ⌝ }
-    ensures { λ r. ⌜ r ≡ has m (getD (now (cells .entry)) n 0) ⌝ }
-{
-    has_mark(m, cells[n])
-}
-
-// Who has written nothing converts nothing.
-pub fn certify_cells<'a>(cells: &'a mut [u8; 2048], order: &'a [u8; 16], me: usize)
-    ensures { λ r. ⌜ now (cells .exit) ≡ swept (certifiedCell (now (order .entry)) (now (cells .entry)) (me % 32)) (now (cells .entry)) ⌝ }
+// The transaction has written some item. Without a way out of its loop the scan is compiled to a few wide instructions.
+pub fn has_claimed(cells: &[u8; 2048], me: usize) -> bool
+    ensures { λ r. ⌜ r ≡ any (wrote (now (cells .entry)) (me % 32)) 0 64 ⌝ }
 {
     let here = me % 32;
-    if !holds_any(cells, Mark::Write, me) {
+    let mut hit = false;
+    for i in 0..64 {
+        hit = hit | is_written(cells[here * 64 + i]);
+    }
+    hit
+}
+
+// Who gives none, or has written nothing, signals nobody. The order is looked up once for all items.
+pub fn signal_readers<'a>(cells: &'a mut [u8; 2048], order: &'a [u8; 16], gives: bool, me: usize)
+    ensures { λ r. ⌜ now (cells .exit) ≡ swept (signalledCell gives (now (order .entry)) (now (cells .entry)) (me % 32)) (now (cells .entry)) ⌝ }
+{
+    if !gives {
         return;
     }
-    let table = *order;
+    if !has_claimed(cells, me) {
+        return;
+    }
+    let here = me % 32;
+    let over = levels_above(*order, here);
     for i in 0..64 {
-        if is_marked(cells, Mark::Write, here * 64 + i) {
-            certify_item(cells, table, here, i);
+        let c = cells[here * 64 + i];
+        if is_written(c) {
+            signal_item(cells, over, i);
         }
+    }
+}
+
+fn convert(c: u8) -> u8
+    ensures { λ r. ⌜ r ≡ cond (has Write c) (marked Certify (unmarked Write c)) c ⌝ }
+{
+    if has_mark(Mark::Write, c) {
+        with_mark(Mark::Certify, without_mark(Mark::Write, c))
+    } else {
+        c
+    }
+}
+
+pub fn convert_cells(cells: &mut [u8; 2048], me: usize)
+    ensures { λ r. ⌜ now (cells .exit) ≡ swept (convertedCell (me % 32)) (now (cells .entry)) ⌝ }
+{
+    let here = me % 32;
+    for i in 0..64 {
+        let n = here * 64 + i;
+        let c = cells[n];
+        cells[n] = convert(c);
     }
 }
 
@@ -113,13 +152,6 @@ pub fn clear_cells(cells: &mut [u8; 2048], me: usize)
     for i in 0..64 {
         cells[here * 64 + i] = 0;
     }
-}
-
-// The transaction holds write or certify on some item.
-pub fn has_claimed(cells: &[u8; 2048], me: usize) -> bool
-    ensures { λ r. ⌜ r ≡ (any (holds (now (cells .entry)) Write (me % 32)) 0 64 || any (holds (now (cells .entry)) Certify (me % 32)) 0 64) ⌝ }
-{
-    holds_any(cells, Mark::Write, me) | holds_any(cells, Mark::Certify, me)
 }
 
 fn commit_item(x: Item, pending: u32) -> Item
@@ -144,7 +176,7 @@ pub fn commit_items<'a>(
     let here = me % 32;
     let mut out = items;
     for i in 0..64 {
-        if is_marked(cells, Mark::Certify, here * 64 + i) {
+        if has_mark(Mark::Certify, cells[here * 64 + i]) {
             let x = out[i];
             out[i] = commit_item(x, pending[i]);
         }
@@ -155,11 +187,7 @@ pub fn commit_items<'a>(
 fn drop_value(c: u8, v: u32) -> u32
     ensures { λ r. ⌜ r ≡ cond (has Write c || has Certify c) 0 v ⌝ }
 {
-    if has_mark(Mark::Write, c) | has_mark(Mark::Certify, c) {
-        0
-    } else {
-        v
-    }
+    if is_written(c) { 0 } else { v }
 }
 
 pub fn drop_pending(pending: [u32; 64], cells: &[u8; 2048], me: usize) -> [u32; 64]

@@ -122,13 +122,14 @@ impl Delays {
 mod tests {
     use super::*;
     use crate::desk::tests::house_and_last;
+    use crate::rule::Rule;
 
     /// Three items at level 0, one at level 1.
     const OPEN: &str = "open 0 0 0 1\nbegin 0\nbegin 0\nbegin 0\nbegin 1\nbegin 1\n";
 
     /// Which of `MEETS` the last of the requests meets, by their numbers from 0 on.
     fn met(requests: &[&str]) -> Vec<usize> {
-        let (mut house, last) = house_and_last(&format!("{OPEN}{}", requests.join("\n")));
+        let (mut house, last) = house_and_last(&format!("{OPEN}{}", requests.join("\n")), Rule::A);
         let reply = house.answer(&last);
         let delay = Delay::of(&house, &last, &reply).expect("a delay that names the holder");
         (0..MEETS.len()).filter(|&number| MEETS[number].1(&delay)).collect()
@@ -186,7 +187,7 @@ mod tests {
     #[test]
     fn a_delay_that_names_nobody_is_none() {
         let lines = format!("{OPEN}write 0 #1 item 0 = 7\nwrite 0 #2 item 0 = 8");
-        let (house, last) = house_and_last(&lines);
+        let (house, last) = house_and_last(&lines, Rule::A);
         let reply = Reply { number: 1, value: 0, ..Reply::repeating(&last) };
         assert!(Delay::of(&house, &last, &reply).is_none());
         assert!(Delay::of(&house, &last, &Reply { value: 1, ..reply }).is_some());

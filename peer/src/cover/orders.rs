@@ -1,27 +1,16 @@
 //! What levels mean to each other (CR 6): what has to be met, so that a desk that goes by the numbers
 //! of levels, or by the table in another way, gives another reply.
 
+use super::moment::Moment;
 use super::{print_met, unmet};
-use crate::desk::{Desk, Place, Refusal};
+use crate::desk::{Place, Refusal};
 use crate::order::Order;
-use crate::wire::{Operation, Reply, Request};
+use crate::wire::Operation;
 use std::io::{self, Write};
-
-/// A request with the houses before and after it.
-pub struct Moment<'a> {
-    pub before: &'a Desk,
-    pub after: &'a Desk,
-    pub request: &'a Request,
-    pub reply: Reply,
-}
 
 impl Moment<'_> {
     fn order(&self) -> Order {
         self.before.order
-    }
-
-    fn is_done(&self, operation: Operation) -> bool {
-        self.request.is(operation) && self.reply.number == 0
     }
 
     /// The level of the asker and that of the item, of a read that got this number.
@@ -36,21 +25,16 @@ impl Moment<'_> {
         levels.is_some_and(|(level, item)| fits(level, item))
     }
 
-    /// Whether a done certify has signalled one of such a level.
+    /// Whether it has signalled one of such a level.
     fn signals(&self, fits: impl Fn(u8) -> bool) -> bool {
-        let mut places = self.before.places.iter().zip(&self.after.places);
-        let has_more = |(old, new): (&Place, &Place)| {
-            fits(new.level) && new.signalled().len() > old.signalled().len()
-        };
-        self.is_done(Operation::Certify) && places.any(has_more)
+        self.signalled().any(|(place, _)| fits(place.level))
     }
 
-    /// Whether one of such a level, who has read something, sees a done certify of a write.
+    /// Whether one of such a level, who has read something, sees it give the signals of a write.
     fn is_beside(&self, fits: impl Fn(u8) -> bool) -> bool {
         let reads = |place: &Place| place.cells.values().any(|cell| cell.read);
-        let writes = !self.before.written_by(self.request).is_empty();
         let mut others = self.before.places.iter().filter(|place| fits(place.level));
-        self.is_done(Operation::Certify) && writes && others.any(reads)
+        self.may_signal() && !self.changed().is_empty() && others.any(reads)
     }
 }
 
@@ -76,14 +60,14 @@ const MEETS: [(&str, Meets); 10] = [
     ("a delayed read of an item of a lower level with a larger number", |at| {
         at.read(Refusal::Delayed.number()).is_some_and(|(level, item)| item > level)
     }),
-    ("a done certify that signals one above", |at| at.signals(|above| above > at.request.level)),
-    ("a done certify that signals one above with a smaller number", |at| {
+    ("signals to one above", |at| at.signals(|above| above > at.request.level)),
+    ("signals to one above with a smaller number", |at| {
         at.signals(|above| above < at.request.level)
     }),
-    ("a done certify that signals level 0 above level 3", |at| {
+    ("signals of level 3 to level 0 above it", |at| {
         at.request.level == 3 && at.signals(|above| above == 0)
     }),
-    ("a done certify beside a reader of an incomparable level", |at| {
+    ("signals beside a reader of an incomparable level", |at| {
         at.is_beside(|level| at.order().are_apart(level, at.request.level))
     }),
 ];
@@ -113,12 +97,14 @@ impl Orders {
 mod tests {
     use super::*;
     use crate::desk::tests::house_and_last;
+    use crate::rule::Rule;
 
     /// Which of `MEETS` the last of the requests meets, by their numbers from 0 on, in a house with
     /// one item at each level, where one of each is open.
     fn met(order: &str, requests: &str) -> Vec<usize> {
         let open = format!("open 0 1 2 3 order {order}\nbegin 0\nbegin 1\nbegin 2\nbegin 3\n");
-        let (before, request) = house_and_last(&format!("{open}{}", requests.replace("; ", "\n")));
+        let lines = format!("{open}{}", requests.replace("; ", "\n"));
+        let (before, request) = house_and_last(&lines, Rule::A);
         let mut after = before.clone();
         let reply = after.answer(&request);
         let moment = Moment { before: &before, after: &after, request: &request, reply };

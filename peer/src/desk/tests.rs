@@ -1,4 +1,4 @@
-//! The marked examples M1 to M12, who holds what is delayed, the replies that a run cannot reach, and
+//! The marked examples M1 to M12, and M11 and M12 under rule B, who holds what is delayed, the replies that a run cannot reach, and
 //! what every run keeps.
 
 use super::*;
@@ -33,14 +33,19 @@ fn plain(desk: &mut Desk, operation: Operation, level: u8, ticket: u32) -> u8 {
     desk.answer(&request(operation, level, ticket)).number
 }
 
-/// Items 0 and 1 at level 0, item 2 at level 2, the old chain, and nobody there.
+/// Items 0 and 1 at level 0, item 2 at level 2, the old chain, rule A, and nobody there.
 fn empty_house() -> Desk {
     open(&[0, 0, 2], &Order::CHAIN.table()).expect("proper levels and a proper table")
 }
 
 /// The house of the marked examples: level-0 tickets 1 and 2 and level-2 ticket 1 are open.
 fn house() -> Desk {
-    let mut desk = empty_house();
+    house_under(Rule::A)
+}
+
+fn house_under(rule: Rule) -> Desk {
+    let opening = empty_house().opening().under(rule);
+    let mut desk = Desk::open(&opening).expect("proper under either rule");
     for (level, ticket) in [(0, 1), (0, 2), (2, 1)] {
         assert_eq!(begin(&mut desk, level).ticket, ticket);
     }
@@ -69,15 +74,27 @@ fn after_m9() -> Desk {
     desk
 }
 
-fn after_m11() -> Desk {
-    let mut desk = house();
+/// Level 2 has read item 0, and level 0 has written and certified it, which tells the certifier nothing.
+fn after_certify(rule: Rule) -> Desk {
+    let mut desk = house_under(rule);
     assert_eq!(read(&mut desk, 2, 1, 0).number, 0);
     assert_eq!(write(&mut desk, 0, 1, 0, 7), 0);
     let certify = request(Operation::Certify, 0, 1);
     assert_eq!(desk.answer(&certify), Reply::repeating(&certify));
-    assert_eq!(plain(&mut desk, Operation::Certify, 2, 1), 2);
+    desk
+}
+
+/// What level 2 is told that asks for its signals: the lowest item, and how many.
+fn asked(desk: &mut Desk) -> (u16, u32) {
     let ask = desk.answer(&request(Operation::Ask, 2, 1));
-    assert_eq!((ask.number, ask.item, ask.value), (0, 0, 1));
+    assert_eq!(ask.number, 0);
+    (ask.item, ask.value)
+}
+
+fn after_m11() -> Desk {
+    let mut desk = after_certify(Rule::A);
+    assert_eq!(plain(&mut desk, Operation::Certify, 2, 1), 2);
+    assert_eq!(asked(&mut desk), (0, 1));
     desk
 }
 
@@ -156,6 +173,75 @@ fn m12_signal_stands_after_abort() {
     assert_eq!(plain(&mut desk, Operation::Certify, 2, 1), 2);
 }
 
+/// Under rule B the certify signals nobody, so the reader above may commit before the writer does.
+#[test]
+fn m11_under_b_the_reader_commits_in_between() {
+    let mut desk = after_certify(Rule::B);
+    assert_eq!(asked(&mut desk), (0, 0));
+    assert_eq!(write(&mut desk, 2, 1, 2, 90), 0);
+    assert_eq!(plain(&mut desk, Operation::Certify, 2, 1), 0);
+    assert_eq!(plain(&mut desk, Operation::Commit, 2, 1), 0);
+    assert_eq!(plain(&mut desk, Operation::Commit, 0, 1), 0);
+    assert_eq!((desk.items[0].value, desk.items[2].value), (7, 90));
+}
+
+/// The commit signals the reader above, certified or not, and tells the committer nothing.
+#[test]
+fn m11_under_b_the_commit_signals() {
+    for certifies in [false, true] {
+        let mut desk = after_certify(Rule::B);
+        if certifies {
+            assert_eq!(plain(&mut desk, Operation::Certify, 2, 1), 0);
+        }
+        let commit = request(Operation::Commit, 0, 1);
+        assert_eq!(desk.answer(&commit), Reply::repeating(&commit));
+        assert_eq!(asked(&mut desk), (0, 1));
+        let next = if certifies { Operation::Commit } else { Operation::Certify };
+        assert_eq!(plain(&mut desk, next, 2, 1), 2);
+    }
+}
+
+/// The teacher of M12 loses nothing: an abort signals nobody.
+#[test]
+fn m12_under_b_the_abort_signals_nobody() {
+    let mut desk = after_certify(Rule::B);
+    assert_eq!(plain(&mut desk, Operation::Abort, 0, 1), 0);
+    assert_eq!(asked(&mut desk), (0, 0));
+    assert_eq!(plain(&mut desk, Operation::Certify, 2, 1), 0);
+    assert_eq!(plain(&mut desk, Operation::Commit, 2, 1), 0);
+}
+
+/// Of two items read from above, only what the committer wrote is signalled.
+#[test]
+fn a_commit_under_b_signals_for_what_it_wrote_alone() {
+    let mut desk = house_under(Rule::B);
+    for (level, item) in [(2, 0), (2, 1), (0, 1)] {
+        assert_eq!(read(&mut desk, level, 1, item).number, 0);
+    }
+    assert_eq!(write(&mut desk, 0, 1, 0, 7), 0);
+    assert_eq!(plain(&mut desk, Operation::Certify, 0, 1), 0);
+    assert_eq!(plain(&mut desk, Operation::Commit, 0, 1), 0);
+    assert_eq!(asked(&mut desk), (0, 1));
+}
+
+#[test]
+fn the_first_refused_check_of_a_rule_is_28() {
+    let named = |number: u8, levels: &[u8], table: &[u8]| {
+        Desk::open(&Opening { rule: number, ..Opening::new(levels, table) })
+    };
+    let proper = Order::CHAIN.table();
+    for number in [2, 3, 128, 255] {
+        assert_eq!(named(number, &[0], &proper), Err(Refusal::NoRule));
+        assert_eq!(named(number, &[], &[]), Err(Refusal::NoRule), "28 is checked before 13");
+    }
+    for rule in Rule::ALL {
+        let desk = named(rule.number(), &[0], &proper).expect("a rule");
+        assert_eq!((desk.rule, desk.opening().rule), (rule, rule.number()));
+        assert_eq!(named(rule.number(), &[4], &proper), Err(Refusal::LevelByte));
+    }
+    assert_eq!(Desk::refused().rule, Rule::A);
+}
+
 #[test]
 fn versions_can_be_spent() {
     let mut desk = house();
@@ -215,11 +301,12 @@ fn certify_takes_all_or_none() {
     assert_eq!(desk, before);
 }
 
-/// The last request of these lines of words, and the house that the others leave, which are done.
-pub fn house_and_last(lines: &str) -> (Desk, Request) {
+/// The last request of these lines of words, and the house under the rule that the others leave, which
+/// are done.
+pub fn house_and_last(lines: &str, rule: Rule) -> (Desk, Request) {
     let input = input_of(lines).expect("lines that make an input");
     let (header, requests) = split_header(&input);
-    let mut desk = opened(header).expect("a house that opens");
+    let mut desk = opened(header, rule).expect("a house that opens");
     let mut requests: Vec<Request> = requests_in(requests).collect();
     let last = requests.pop().expect("a request");
     for request in requests {
@@ -231,7 +318,8 @@ pub fn house_and_last(lines: &str) -> (Desk, Request) {
 /// The holder that the last of these requests is told; two items are at level 0, one at level 1.
 fn holder(requests: &str) -> (u32, u32) {
     let open = "open 0 0 1\nbegin 0\nbegin 0\nbegin 0\nbegin 0\nbegin 1\nbegin 1\nbegin 1\n";
-    let (mut desk, last) = house_and_last(&format!("{open}{}", requests.replace("; ", "\n")));
+    let lines = format!("{open}{}", requests.replace("; ", "\n"));
+    let (mut desk, last) = house_and_last(&lines, Rule::A);
     let reply = desk.answer(&last);
     let repeated = Reply { number: 0, value: 0, version: 0, ..reply };
     assert_eq!(repeated, Reply::repeating(&last), "all else is as it was before CR 5");
@@ -292,7 +380,12 @@ fn openings() {
 
 /// Two subjects side by side: one item at each level, and one of each level is open.
 fn diamond() -> Desk {
-    let mut desk = open(&[0, 1, 2, 3], &Order::DIAMOND.table()).expect("a house that opens");
+    diamond_under(Rule::A)
+}
+
+fn diamond_under(rule: Rule) -> Desk {
+    let opening = Opening::new(&[0, 1, 2, 3], &Order::DIAMOND.table()).under(rule);
+    let mut desk = Desk::open(&opening).expect("a house that opens");
     levels().for_each(|level| assert_eq!(begin(&mut desk, level).ticket, 1));
     desk
 }
@@ -309,14 +402,17 @@ fn geography_and_history_do_not_read_each_other() {
     assert_eq!(write(&mut desk, 3, 1, 1, 7), 8, "a write is of the asker's own level only");
 }
 
-/// Which levels a certify at this level signals, where everybody has read what they may.
-fn signalled_by(level: u8) -> Vec<u8> {
-    let mut desk = diamond();
+/// Which levels the signals of this level reach, where everybody has read what they may.
+fn signalled_by(level: u8, rule: Rule) -> Vec<u8> {
+    let mut desk = diamond_under(rule);
     for (reader, item) in levels().flat_map(|reader| levels().map(move |item| (reader, item))) {
         read(&mut desk, reader, 1, item.into());
     }
     assert_eq!(write(&mut desk, level, 1, level.into(), 7), 0);
     assert_eq!(plain(&mut desk, Operation::Certify, level, 1), 0);
+    if rule.signals_at() == Operation::Commit {
+        assert_eq!(plain(&mut desk, Operation::Commit, level, 1), 0);
+    }
     let is_signalled = |reader: &u8| {
         let ask = desk.clone().answer(&request(Operation::Ask, *reader, 1));
         (ask.value, ask.item) == (1, level.into())
@@ -325,11 +421,13 @@ fn signalled_by(level: u8) -> Vec<u8> {
 }
 
 #[test]
-fn a_certify_signals_whoever_is_above_by_the_table() {
-    assert_eq!(signalled_by(0), [1, 2, 3]);
-    assert_eq!(signalled_by(1), [3]);
-    assert_eq!(signalled_by(2), [3]);
-    assert_eq!(signalled_by(3), []);
+fn signals_reach_whoever_is_above_by_the_table() {
+    for rule in Rule::ALL {
+        assert_eq!(signalled_by(0, rule), [1, 2, 3]);
+        assert_eq!(signalled_by(1, rule), [3]);
+        assert_eq!(signalled_by(2, rule), [3]);
+        assert_eq!(signalled_by(3, rule), []);
+    }
 }
 
 /// The old chain gives the old replies: levels are compared by number.
@@ -424,8 +522,8 @@ fn holder_by_matrix(desk: &Desk, request: &Request) -> Option<(u32, u32)> {
 
 #[test]
 fn every_run_keeps_the_house_in_order() {
-    for seed in 0..40 {
-        let mut generator = Generator::new(seed);
+    for (seed, rule) in (0..40).flat_map(|seed| Rule::ALL.map(|rule| (seed, rule))) {
+        let mut generator = Generator::new(seed, rule);
         let mut desk = generator.desk().clone();
         for _ in 0..400 {
             let request = generator.next_request();

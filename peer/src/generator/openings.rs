@@ -1,9 +1,10 @@
-//! Which order a seed's house has, and how the opening of every eighth seed is spoiled.
+//! Which order and which rule a seed's house has, and how the opening of every eighth seed is spoiled.
 
 use super::at_or_above;
 use crate::desk::{LEVELS, MOST_ITEMS};
 use crate::order::{entry, flaws, levels, reflexive_tables, Flaw, Order, Table, TABLE_BYTES};
 use crate::rng::Rng;
+use crate::rule::Rule;
 use std::sync::OnceLock;
 
 /// Of eight seeds six take the next orders of all, one the chain or the diamond, and the last, whose
@@ -25,6 +26,14 @@ pub fn order_of(seed: u64, rng: &mut Rng) -> Order {
         (_, 0) => Order::CHAIN,
         _ => Order::DIAMOND,
     }
+}
+
+/// Half of the seeds take rule B, wherever a caller can name one. Every order opens a house under
+/// either rule within 600 seeds, and openings under either are spoiled in every way within 200.
+pub fn rule_of(seed: u64) -> Rule {
+    let (round, turn) = (seed / ROUND, seed % ROUND);
+    let number = if turn < IN_TURN { turn } else { round / 2 + round / SPOILS.len() as u64 };
+    Rule::ALL[(number % 2) as usize]
 }
 
 pub fn any_order(rng: &mut Rng) -> Order {

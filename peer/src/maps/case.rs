@@ -2,7 +2,7 @@
 
 use super::Open;
 use crate::desk::{Desk, Place, Standing, LEVELS};
-use crate::generator::{at_or_above, spoil, strange_item, Generator};
+use crate::generator::{at_or_above, rule_of, spoil, strange_item, Generator};
 use crate::opening::{split_opening, Opening};
 use crate::rng::Rng;
 use crate::wire::{Operation, Request, REPLY_BYTES, REQUEST_BYTES};
@@ -14,6 +14,9 @@ const LONGEST: usize = LENGTHS[LENGTHS.len() - 1];
 
 /// Lengths of tables that are refused. Every eighth seed has one of them.
 pub const TABLE_LENGTHS: [usize; 6] = [15, 17, 0, 32, 1, 255];
+
+/// Numbers that are no rule.
+const NO_RULES: [u8; 4] = [2, 255, 3, 128];
 
 /// How many requests at most go on until there is the reader that is sought.
 const LONGEST_WAIT: usize = 400;
@@ -51,7 +54,7 @@ pub struct Case {
 impl Case {
     pub fn of_seed(seed: u64) -> Case {
         let mut rng = Rng::new(seed ^ OWN_STREAM);
-        let mut generator = Generator::new(seed);
+        let mut generator = Generator::new(seed, rule_of(seed));
         let opening = opening(seed, &mut rng, generator.desk());
         let mut before = stretch(&mut generator, rng.below(200));
         let (level, ticket) = reader(&mut rng, &mut generator, &mut before);
@@ -91,6 +94,7 @@ impl Case {
             bytes.push(part.len() as u8);
             bytes.extend(part);
         }
+        bytes.push(opening.rule);
         bytes.push(map.level);
         bytes.extend(map.ticket.to_le_bytes());
         bytes.extend(two(map.items.len()));
@@ -106,7 +110,7 @@ impl Case {
     pub fn from_bytes(bytes: &[u8]) -> Option<Case> {
         let (levels, rest) = counted(bytes)?;
         let (table, rest) = counted(rest)?;
-        let (&[level], rest) = rest.split_first_chunk::<1>()?;
+        let (&[rule, level], rest) = rest.split_first_chunk::<2>()?;
         let (&ticket, rest) = rest.split_first_chunk::<4>()?;
         let (items, rest) = two_bytes(rest)?;
         let (items, rest) = rest.split_at_checked(2 * items)?;
@@ -116,7 +120,8 @@ impl Case {
         let items = items.chunks_exact(2).map(|item| u16::from_le_bytes([item[0], item[1]]));
         let map = Map { level, ticket: u32::from_le_bytes(ticket), items: items.collect() };
         let (before, after) = (before.to_vec(), after.to_vec());
-        Some(Case { opening: Opening::new(levels, table), before, map, room, after })
+        let opening = Opening { rule, ..Opening::new(levels, table) };
+        Some(Case { opening, before, map, room, after })
     }
 }
 
@@ -131,12 +136,17 @@ fn two_bytes(bytes: &[u8]) -> Option<(usize, &[u8])> {
     Some((u16::from_le_bytes(number).into(), rest))
 }
 
-/// The levels and the table of the house, or in two seeds of eight such as are refused: those of a
-/// spoiled header, or a table of another length. The requests stay those of the house.
+/// The opening of the house, or in two seeds of eight one that is refused: that of a spoiled header, or
+/// with a table of another length. In one seed of eight, of either kind, the rule is none. The requests
+/// stay those of the house.
 fn opening(seed: u64, rng: &mut Rng, desk: &Desk) -> Opening {
     let mut header = desk.opening().header();
     spoil(seed, rng, &mut header);
     let (_, mut opening) = split_opening(&header);
+    opening.rule = desk.rule.number();
+    if [5, 13, 22, 31].contains(&(seed % 32)) {
+        opening.rule = NO_RULES[(seed / 32) as usize % NO_RULES.len()];
+    }
     if seed % 8 == 6 {
         let length = TABLE_LENGTHS[(seed / 8) as usize % TABLE_LENGTHS.len()];
         opening.table = opening.table.iter().copied().cycle().take(length).collect();
@@ -254,13 +264,13 @@ fn after(rng: &mut Rng, mut generator: Generator, map: &Map) -> Vec<u8> {
 }
 
 /// Requests whose replies show every read lock of the map's reader. All others leave; then
-/// somebody writes and certifies item after item: a lock at its own level delays the certify, one
-/// from above is signalled, and the reader asks how many are.
+/// somebody writes and certifies item after item, and commits where signals are given then: a lock at
+/// its own level delays the certify, one from above is signalled, and the reader asks how many are.
 fn look(mut desk: Desk, map: &Map) -> Vec<u8> {
     let Map { level, ticket, .. } = *map;
     let others = desk.places.iter().filter(|place| place.is_taken());
     let others: Vec<(u8, u32)> = others.map(|place| (place.level, place.ticket)).collect();
-    let levels = desk.levels();
+    let (levels, rule) = (desk.levels(), desk.rule);
     let mut bytes = Vec::new();
     let mut ask = |operation: Operation, (level, ticket), item: usize, value| {
         let operation = operation.number();
@@ -275,6 +285,9 @@ fn look(mut desk: Desk, map: &Map) -> Vec<u8> {
         let writer = (item_level, ask(Operation::Begin, (item_level, 0), 0, 0));
         ask(Operation::Write, writer, item, 1);
         ask(Operation::Certify, writer, 0, 0);
+        if rule.signals_at() == Operation::Commit {
+            ask(Operation::Commit, writer, 0, 0);
+        }
         ask(Operation::Ask, (level, ticket), 0, 0);
         ask(Operation::Abort, writer, 0, 0);
     }
@@ -299,9 +312,9 @@ mod tests {
     fn the_bytes_lie_as_the_program_reads_them() {
         let map = Map { level: 3, ticket: 0x07060504, items: vec![0x0908, 1] };
         let (before, after) = (vec![5; REQUEST_BYTES], vec![6; 2]);
-        let opening = Opening::new(&[0, 1], &[1, 1, 2]);
+        let opening = Opening { rule: 9, ..Opening::new(&[0, 1], &[1, 1, 2]) };
         let case = Case { opening, before, map, room: 0x0102, after };
-        let start = [2, 0, 1, 3, 1, 1, 2, 3, 4, 5, 6, 7, 2, 0, 8, 9, 1, 0, 2, 1, 1, 0];
+        let start = [2, 0, 1, 3, 1, 1, 2, 9, 3, 4, 5, 6, 7, 2, 0, 8, 9, 1, 0, 2, 1, 1, 0];
         let bytes = [&start[..], &[5; REQUEST_BYTES], &[6; 2]].concat();
         assert_eq!(case.to_bytes(), bytes);
         // All but the requests after the map has to be there.

@@ -1,5 +1,5 @@
-//! The slips that CR 2 invites, and those of an opening that no input on the wire shows (CR 6), made
-//! on purpose: a map call that behaves but for one slip.
+//! The slips that CR 2 invites, and those of an opening that no input on the wire shows (CR 6, CR 7),
+//! made on purpose: a map call that behaves but for one slip.
 
 use super::{read_map, Call, Conduct, Map, Open};
 use crate::desk::{Desk, Refusal, MOST_ITEMS};
@@ -7,7 +7,7 @@ use crate::opening::Opening;
 use crate::order::TABLE_BYTES;
 use crate::wire::REPLY_BYTES;
 
-pub const SLIPS: [(&str, Conduct); 11] = [
+pub const SLIPS: [(&str, Conduct); 15] = [
     ("leaves the last item out", reads(leaves_last_out)),
     ("stops after a refusal", reads(stops_after_refusal)),
     ("gives no reply where it refuses", reads(skips_refused)),
@@ -19,6 +19,16 @@ pub const SLIPS: [(&str, Conduct); 11] = [
     ("keeps the locks of the last 64 reads only", reads(keeps_last_part)),
     ("takes the first 16 bytes of a longer table", opens(takes_longer_table)),
     ("goes by a shorter table as if zeros followed", opens(fills_shorter_table)),
+    ("takes rule B for rule A", opens(|opening| Desk::open(&under(opening, |rule| rule & !1)))),
+    (
+        "takes any number above 1 for rule B",
+        opens(|opening| Desk::open(&under(opening, |rule| rule.min(1)))),
+    ),
+    (
+        "takes the lowest bit of a number for the rule",
+        opens(|opening| Desk::open(&under(opening, |rule| rule & 1))),
+    ),
+    ("looks at the rule last", opens(rule_last)),
 ];
 
 const fn reads(call: Call) -> Conduct {
@@ -98,4 +108,13 @@ fn takes_longer_table(opening: &Opening) -> Result<Desk, Refusal> {
 fn fills_shorter_table(opening: &Opening) -> Result<Desk, Refusal> {
     let zeros = vec![0; TABLE_BYTES.saturating_sub(opening.table.len())];
     Desk::open(&opening.with_table(&[&opening.table[..], &zeros].concat()))
+}
+
+/// The opening with another number for its rule.
+fn under(opening: &Opening, number: fn(u8) -> u8) -> Opening {
+    Opening { rule: number(opening.rule), ..opening.clone() }
+}
+
+fn rule_last(opening: &Opening) -> Result<Desk, Refusal> {
+    Desk::open(&under(opening, |_| 0)).and_then(|_| Desk::open(opening))
 }

@@ -8,6 +8,7 @@ use mathlib.Core.Logic.{⊎-elim}
 use mathlib.Core.Path.{_≡_, sym, _∙_}
 use borrow.Author.Tests.{not-true, not-false}
 use borrow.Author.Needs.{needs}
+use Rattle.house.proofs.Branches.{went, passed}
 use Rattle.house.proofs.Lists.{length-mapped}
 use Rattle.house.specs.Rules.{clearedCell}
 use Rattle.house.specs.House.{Sizes, vacant, withItems, withPending, withPlace, withCells}
@@ -15,7 +16,7 @@ use Rattle.house.specs.declared.House.{House}
 use Rattle.house.specs.declared.Place.{Place}
 use Rattle.ruling.specs.Ruling.{fits, effect, effectIfFit}
 use Rattle.sweeps.specs.Sweep.{swept}
-use Rattle.sweeps.proofs.Changes.{begin-there, write-there, certify-there, end-there, kept-is, begun-is, read-is, written-is, certified-is, ended-is, went, passed}
+use Rattle.sweeps.proofs.Changes.{begin-there, write-there, certify-there, end-there, kept-is, begun-is, read-is, written-is, certified-is, ended-tested}
 use Rattle.perform.proofs.perform.Statement.{statement}
 use Rattle.perform.proofs.perform.Tie as tie
 
@@ -49,24 +50,29 @@ certifies c = certify-there _ (fit (search)) _ (c .change4 .given .1)
 ends : (c : tie.After-change5) → c .change5 .given .0 .0 < 32
 ends c = end-there _ (fit (search)) _ _ (c .change5 .given .1)
 
--- an end, once its two tests have met: with the cells cleared and the place left it is the effect
+-- an end, once its three tests have met: with the cells cleared and the place left it is the effect
 
-abbrev ending : tie.Joined3 → tie.After-change5
+abbrev ending : tie.Joined4 → tie.After-change5
 ending c = search
 
-abbrev whose : tie.Joined3 → tie.Start
+abbrev whose : tie.Joined4 → tie.Start
 whose c = search
 
-ended : (c : tie.Joined3) → let me = ending c .change5 .given .0 .0 in let h = c .if3 .h in
+ended : (c : tie.Joined4) → let me = ending c .change5 .given .0 .0 in let h = c .if4 .h in
     (cells : List ℕ) → cells ≡ swept (clearedCell (me % 32)) (h .cells) → (place : Place) → place ≡ vacant → withPlace (withCells h cells) me place ≡ effect (whose c .args .h) (whose c .args .change)
 ended c =
     let k : tie.After-has-claimed = search in
     let i : tie.Joined2 = search in
+    let j : tie.Joined3 = search in
+    let s : tie.After-gives-at2 = search in
     let items = withItems (whose c .args .h) in
     let pending = withPending (i .if2 .h) in
-    ended-is _ (fit (search)) _ (sizes (whose c)) _ _ (ending c .change5 .given .1) _ (k .has-claimed .ensures)
+    let cells = withCells (j .if3 .h) in
+    ended-tested _ (fit (search)) _ (sizes (whose c)) _ _ (ending c .change5 .given .1) _ (k .has-claimed .ensures)
     (i .if2 .h) (⊎-elim (λ w. search (went items)) (λ w. search (passed items)) (i .if2 .came))
-    (c .if3 .h) (⊎-elim (λ w. search (went pending)) (λ w. search (passed pending)) (c .if3 .came))
+    (j .if3 .h) (⊎-elim (λ w. search (went pending)) (λ w. search (passed pending)) (j .if3 .came))
+    _ (s .gives-at2 .ensures)
+    (c .if4 .h) (⊎-elim (λ w. search (went cells)) (λ w. search (passed cells)) (c .if4 .came))
 
 is-fit-requires : tie.Need-is-fit-requires
 is-fit-requires c κs = search needs
@@ -126,8 +132,14 @@ element-write-h-2 c = omega (arith, writes (search))
 enum-known-change-4 : tie.Need-enum-known-change-4
 enum-known-change-4 c = search needs
 
-certify-cells-requires : tie.Need-certify-cells-requires
-certify-cells-requires c κs = search needs
+gives-at-requires : tie.Need-gives-at-requires
+gives-at-requires c κs = search needs
+
+signal-readers-requires : tie.Need-signal-readers-requires
+signal-readers-requires c κs = search needs
+
+convert-cells-requires : tie.Need-convert-cells-requires
+convert-cells-requires c κs = search needs
 
 mul-place : tie.Need-mul-place
 mul-place c = omega (arith, certifies (search))
@@ -156,6 +168,12 @@ commit-items-requires c κs = search needs
 drop-pending-requires : tie.Need-drop-pending-requires
 drop-pending-requires c κs = search needs
 
+gives-at-requires-2 : tie.Need-gives-at-requires-2
+gives-at-requires-2 c κs = search needs
+
+signal-readers-requires-2 : tie.Need-signal-readers-requires-2
+signal-readers-requires-2 c κs = search needs
+
 clear-cells-requires : tie.Need-clear-cells-requires
 clear-cells-requires c κs = search needs
 
@@ -181,7 +199,10 @@ returns-5 : tie.Need-returns-5
 returns-5 c = made (search) _ (search written-is)
 
 returns-6 : tie.Need-returns-6
-returns-6 c = made (search) _ (search certified-is)
+returns-6 c =
+    let k : tie.After-change4 = search in
+    let v : tie.After-convert-cells = search in
+    made (search) _ (λ f z. search (certified-is _ f _ z _ (k .change4 .given .1) _ _ (v .convert-cells .ensures)))
 
 returns-7 : tie.Need-returns-7
 returns-7 c = made (search) _ (search (ended (search)))
@@ -209,7 +230,9 @@ perform-spec =
     mul-h-2
     element-write-h-2
     enum-known-change-4
-    certify-cells-requires
+    gives-at-requires
+    signal-readers-requires
+    convert-cells-requires
     mul-place
     element-copy-out-place
     certified-requires
@@ -219,6 +242,8 @@ perform-spec =
     has-claimed-requires
     commit-items-requires
     drop-pending-requires
+    gives-at-requires-2
+    signal-readers-requires-2
     clear-cells-requires
     left-free-requires
     mul-left

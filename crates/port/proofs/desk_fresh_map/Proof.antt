@@ -3,8 +3,8 @@ use borrow.Author.Needs.{needs}
 use Rattle.port.proofs.desk_fresh_map.Statement.{statement}
 use Rattle.port.proofs.desk_fresh_map.Tie as tie
 
-open-requires : tie.Need-open-requires
-open-requires c κs = search needs
+open-by-requires : tie.Need-open-by-requires
+open-by-requires c κs = search needs
 
 turn-in-place-requires : tie.Need-turn-in-place-requires
 turn-in-place-requires c κs = search needs
@@ -29,8 +29,8 @@ returns c =
     let l : tie.After-turn-in-place2 = search in
     let m : tie.After-read-map = search in
     let s : tie.After-turn-in-place = search in
-    let o : tie.After-open = search in
-    let served = rw (o .«open» .ensures) at (s .turn-in-place .ensures) in
+    let o : tie.After-open-by = search in
+    let served = rw (o .open-by .ensures) at (s .turn-in-place .ensures) in
     let map = rw (served .0) at (m .read-map .ensures) in
     let last = rw (map .0) at (l .turn-in-place2 .ensures) in
     (ap (λ r. r .count) (map .0), served .1, map .1, last .1)
@@ -39,7 +39,7 @@ pub desk-fresh-map-spec : {M : Type 1} → statement M
 desk-fresh-map-spec =
     tie.close
     (tie.spec
-    open-requires
+    open-by-requires
     turn-in-place-requires
     read-map-requires
     turn-in-place-requires-2

@@ -19,14 +19,17 @@ abbrev μ-loop : tie.MeasureT-loop
 loop-holds : tie.Need-loop-holds Inv-loop μ-loop
 loop-holds c = sofar-none _ _ _ _
 
-mul-is-marked : tie.Need-mul-is-marked Inv-loop μ-loop
-mul-is-marked c = search needs
+mul-has-mark : tie.Need-mul-has-mark Inv-loop μ-loop
+mul-has-mark c = search needs
 
-add-is-marked : tie.Need-add-is-marked Inv-loop μ-loop
-add-is-marked c = search needs
+add-has-mark : tie.Need-add-has-mark Inv-loop μ-loop
+add-has-mark c = search needs
 
-is-marked-requires : tie.Need-is-marked-requires Inv-loop μ-loop
-is-marked-requires c κs = search needs
+element-copy-out-has-mark : tie.Need-element-copy-out-has-mark Inv-loop μ-loop
+element-copy-out-has-mark c = search needs
+
+has-mark-requires : tie.Need-has-mark-requires Inv-loop μ-loop
+has-mark-requires c κs = search needs
 
 mul-x : tie.Need-mul-x Inv-loop μ-loop
 mul-x c = search needs
@@ -68,9 +71,10 @@ commit-items-spec =
     Inv-loop
     μ-loop
     loop-holds
-    mul-is-marked
-    add-is-marked
-    is-marked-requires
+    mul-has-mark
+    add-has-mark
+    element-copy-out-has-mark
+    has-mark-requires
     mul-x
     array-copy-out-x
     mul-commit-item

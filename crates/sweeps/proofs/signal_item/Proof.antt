@@ -1,30 +1,31 @@
 -- Round l handles the cells of level l (`Sofar`), all at once if it is above, by the law `signalled-level` of `Rounds`. After four rounds
 -- what is left is past the places of a house.
 use Prim.Native.Nat.{ℕ, _-_, _/_}
+use mathlib.Core.Bool.{false}
 use mathlib.Core.List.{List}
 use native.Mathlib.Omega.{arith}
 use mathlib.Core.Logic.{⊎-elim}
+use lib.ListN.{getD}
+use Rattle.house.proofs.Branches.{went, passed}
 use Rattle.house.proofs.Lists.{Sofar, sofar-none, sofar-end}
 use Rattle.house.specs.Cell.{mapCells}
-use Rattle.house.specs.Rules.{signalledCell}
-use Rattle.sweeps.proofs.Changes.{went, passed}
 use Rattle.sweeps.proofs.Rounds.{cellwise, beyond, signalled-level}
-use Rattle.sweeps.specs.Sweep.{swept, onItem}
+use Rattle.sweeps.specs.Sweep.{swept, onItem, signalledFrom}
 use borrow.Author.Needs.{needs}
 use Rattle.sweeps.proofs.signal_item.Statement.{statement}
 use Rattle.sweeps.proofs.signal_item.Tie as tie
 
 abbrev Inv-loop : tie.InvT-loop
-Inv-loop cells₀ order me i l₀ cells l = Sofar 0 (λ n. n / 64 / 8) (cellwise (onItem i (signalledCell order me))) l cells₀ cells
+Inv-loop cells₀ i over l₀ cells l = Sofar 0 (λ n. n / 64 / 8) (cellwise (onItem i (signalledFrom (λ k. getD over k false)))) l cells₀ cells
 
 abbrev μ-loop : tie.MeasureT-loop
-μ-loop cells₀ order me i l₀ cells l = 4 - l
+μ-loop cells₀ i over l₀ cells l = 4 - l
 
 loop-holds : tie.Need-loop-holds Inv-loop μ-loop
 loop-holds c = sofar-none _ _ _ _
 
-is-above-requires : tie.Need-is-above-requires Inv-loop μ-loop
-is-above-requires c κs = search needs
+array-read-if1 : tie.Need-array-read-if1 Inv-loop μ-loop
+array-read-if1 c = search needs
 
 signal-level-requires : tie.Need-signal-level-requires Inv-loop μ-loop
 signal-level-requires c κs = search needs
@@ -49,7 +50,7 @@ signal-item-spec =
     Inv-loop
     μ-loop
     loop-holds
-    is-above-requires
+    array-read-if1
     signal-level-requires
     add-l
     loop-less

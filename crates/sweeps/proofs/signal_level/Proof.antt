@@ -1,6 +1,7 @@
 -- Round k handles the cells of the k-th place of every level (`Sofar`), by the law `signalled-one` of `Rounds`.
 use Prim.Native.Nat.{_-_, _/_, _%_}
 use native.Mathlib.Omega.{arith}
+use lib.Dec.{eqb}
 use Rattle.house.proofs.Lists.{Sofar, sofar-none, sofar-all}
 use Rattle.house.specs.Cell.{mapCells}
 use Rattle.sweeps.proofs.Rounds.{cellwise, signalled-one}
@@ -10,7 +11,7 @@ use Rattle.sweeps.proofs.signal_level.Statement.{statement}
 use Rattle.sweeps.proofs.signal_level.Tie as tie
 
 abbrev Inv-loop : tie.InvT-loop
-Inv-loop cells₀ l i k₀ cells k = Sofar 0 (λ n. n / 64 % 8) (cellwise (onItem i (signalledFrom l))) k cells₀ cells
+Inv-loop cells₀ l i k₀ cells k = Sofar 0 (λ n. n / 64 % 8) (cellwise (onItem i (signalledFrom (eqb l)))) k cells₀ cells
 
 abbrev μ-loop : tie.MeasureT-loop
 μ-loop cells₀ l i k₀ cells k = 8 - k

@@ -2,16 +2,18 @@
 -- made (`more`), and each arm is a law of its change (`Changes`). What they go by, `search` finds; a place far back is found by its type.
 use Prim.Native.Nat.{ℕ, _+_, _-_, _*_, _%_, _<_, _≤_}
 use native.Mathlib.Omega.{arith}
-use mathlib.Core.Bool.{true}
+use mathlib.Core.Bool.{Bool, true, _&&_}
 use mathlib.Core.List.{List}
 use mathlib.Core.Logic.{_⊎_, ⊎-elim}
 use mathlib.Core.Path.{_≡_, refl, sym, ap, _∙_}
+use lib.Dec.{eqb}
 use lib.ListN.{length}
 use lib.Seq.{paste}
 use borrow.Author.Needs.{needs}
+use Rattle.house.proofs.Branches.{went, passed}
 use Rattle.house.proofs.Lists.{length-mapped}
 use Rattle.house.specs.House.{Sizes, vacant, withItems, withPending, withPlace, withCells}
-use Rattle.house.specs.Rules.{clearedCell, replied}
+use Rattle.house.specs.Rules.{commit, signalsAt, signalledCell, clearedCell, replied}
 use Rattle.house.specs.Run.{finally, replies}
 use Rattle.house.specs.declared.House.{House}
 use Rattle.house.specs.declared.Place.{Place}
@@ -24,7 +26,7 @@ use Rattle.ruling.specs.Ruling.{fits, effect, answerOf, changeOf}
 use Rattle.ruling.specs.declared.Change.{Change}
 use Rattle.ruling.specs.declared.Ruling.{Ruling}
 use Rattle.sweeps.specs.Sweep.{swept}
-use Rattle.sweeps.proofs.Changes.{begin-there, write-there, certify-there, end-there, kept-is, begun-is, read-is, written-is, certified-is, ended-is, went, passed}
+use Rattle.sweeps.proofs.Changes.{begin-there, write-there, certify-there, end-there, kept-is, begun-is, read-is, written-is, certified-is, ended-is}
 use Rattle.desk.proofs.Laws.{housed-more, written-more, turned-at, answered-at, finally-keeps}
 use Rattle.step.proofs.Requests.{holder-there, change-there, stepping, refusing, delaying, granting}
 use Rattle.desk.proofs.in_place.turn_in_place.Statement.{statement}
@@ -142,7 +144,7 @@ certifies c = certify-there _ (fitting (search)) _ (c .change4 .given .1)
 ends : (c : tie.After-change5 Inv-loop μ-loop) → c .change5 .given .0 .0 < 32
 ends c = end-there _ (fitting (search)) _ _ (c .change5 .given .1)
 
--- an end, once its two tests have met: with the cells cleared and the place left it is the effect
+-- an end, once its two tests have met: with the signals given, the cells cleared and the place left it is the effect
 
 abbrev ending : tie.Joined2 Inv-loop μ-loop → tie.After-change5 Inv-loop μ-loop
 ending c = search
@@ -150,8 +152,10 @@ ending c = search
 abbrev whose : tie.Joined2 Inv-loop μ-loop → tie.After-change-of Inv-loop μ-loop
 whose c = search
 
-ended : (c : tie.Joined2 Inv-loop μ-loop) → let me = ending c .change5 .given .0 .0 in let h = c .if2 .h in
-    (cells : List ℕ) → cells ≡ swept (clearedCell (me % 32)) (h .cells) → (place : Place) → place ≡ vacant → withPlace (withCells h cells) me place ≡ effect (held (judged (whose c))) (change (whose c))
+ended : (c : tie.Joined2 Inv-loop μ-loop) → let me = ending c .change5 .given .0 .0 in let commits = ending c .change5 .given .0 .1 .0 in let h = c .if2 .h in
+    (cells given : List ℕ) → cells ≡ swept (clearedCell (me % 32)) given
+    → (gives : Bool) → given ≡ swept (signalledCell (commits && gives) (h .order) (h .cells) (me % 32)) (h .cells) → gives ≡ eqb (signalsAt (h .rule)) commit
+    → (place : Place) → place ≡ vacant → withPlace (withCells h cells) me place ≡ effect (held (judged (whose c))) (change (whose c))
 ended c =
     let k : tie.After-has-claimed Inv-loop μ-loop = search in
     let i : tie.Joined1 Inv-loop μ-loop = search in
@@ -396,8 +400,14 @@ loop-again-4 c = more (search) _ (search written-is)
 enum-known-change-4 : tie.Need-enum-known-change-4 Inv-loop μ-loop
 enum-known-change-4 c = search needs
 
-certify-cells-requires : tie.Need-certify-cells-requires Inv-loop μ-loop
-certify-cells-requires c κs = search needs
+gives-at-requires : tie.Need-gives-at-requires Inv-loop μ-loop
+gives-at-requires c κs = search needs
+
+signal-readers-requires : tie.Need-signal-readers-requires Inv-loop μ-loop
+signal-readers-requires c κs = search needs
+
+convert-cells-requires : tie.Need-convert-cells-requires Inv-loop μ-loop
+convert-cells-requires c κs = search needs
 
 mul-place : tie.Need-mul-place Inv-loop μ-loop
 mul-place c = omega (arith, certifies (search))
@@ -418,7 +428,13 @@ loop-less-5 : tie.Need-loop-less-5 Inv-loop μ-loop
 loop-less-5 c = less (judged (search))
 
 loop-again-5 : tie.Need-loop-again-5 Inv-loop μ-loop
-loop-again-5 c = more (search) _ (search certified-is)
+loop-again-5 c =
+    let k : tie.After-change4 Inv-loop μ-loop = search in
+    let g : tie.After-gives-at Inv-loop μ-loop = search in
+    let s : tie.After-signal-readers Inv-loop μ-loop = search in
+    let v : tie.After-convert-cells Inv-loop μ-loop = search in
+    let p : tie.After-certified Inv-loop μ-loop = search in
+    more (search) _ (λ f z. certified-is _ f _ z _ (k .change4 .given .1) _ _ (v .convert-cells .ensures) _ (s .signal-readers .ensures) (g .gives-at .ensures) _ (p .certified .ensures))
 
 enum-known-change-5 : tie.Need-enum-known-change-5 Inv-loop μ-loop
 enum-known-change-5 c = search needs
@@ -431,6 +447,12 @@ commit-items-requires c κs = search needs
 
 drop-pending-requires : tie.Need-drop-pending-requires Inv-loop μ-loop
 drop-pending-requires c κs = search needs
+
+gives-at-requires-2 : tie.Need-gives-at-requires-2 Inv-loop μ-loop
+gives-at-requires-2 c κs = search needs
+
+signal-readers-requires-2 : tie.Need-signal-readers-requires-2 Inv-loop μ-loop
+signal-readers-requires-2 c κs = search needs
 
 clear-cells-requires : tie.Need-clear-cells-requires Inv-loop μ-loop
 clear-cells-requires c κs = search needs
@@ -540,7 +562,9 @@ turn-in-place-spec =
     loop-less-4
     loop-again-4
     enum-known-change-4
-    certify-cells-requires
+    gives-at-requires
+    signal-readers-requires
+    convert-cells-requires
     mul-place
     element-copy-out-place
     certified-requires
@@ -552,6 +576,8 @@ turn-in-place-spec =
     has-claimed-requires
     commit-items-requires
     drop-pending-requires
+    gives-at-requires-2
+    signal-readers-requires-2
     clear-cells-requires
     left-free-requires
     mul-left
