@@ -5,6 +5,7 @@ mod moment;
 mod openings;
 mod orders;
 mod rules;
+mod tally;
 
 use crate::desk::{Desk, Place, Refusal, Standing, PLACES_PER_LEVEL};
 use crate::generator;
@@ -14,12 +15,11 @@ use crate::rule::Rule;
 use crate::run::{opened, output_for, BY_THE_RULES};
 use crate::stop::Stop;
 use crate::wire::{Operation, Reply, Request, REQUEST_BYTES};
-use delays::{Delay, Delays};
+use delays::Delay;
 use moment::Moment;
 use openings::Openings;
-use orders::Orders;
-use rules::Signals;
 use std::io::{self, Write};
+use tally::Tally;
 
 /// Rows: the operations, then all numbers above 6 together.
 const ROWS: usize = 8;
@@ -76,10 +76,10 @@ struct Counts {
     /// Writes of 0, by what the same write of 1 is answered: 15 comes behind some of these numbers
     /// and before the others.
     blank: [u64; NUMBERS.len()],
-    delays: Delays,
+    delays: Tally<delays::Meets>,
     openings: Openings,
-    orders: Orders,
-    signals: Signals,
+    orders: Tally<orders::Meets>,
+    signals: Tally<rules::Meets>,
     /// Replies that no reading of the rules allows.
     strange: u64,
 }
@@ -92,10 +92,10 @@ impl Counts {
             standings: Default::default(),
             passed: Default::default(),
             blank: Default::default(),
-            delays: Delays::default(),
+            delays: delays::tally(),
             openings: Openings::default(),
-            orders: Orders::default(),
-            signals: Signals::new(rule),
+            orders: orders::tally(),
+            signals: rules::tally(rule),
             strange: 0,
         }
     }
@@ -115,8 +115,8 @@ impl Counts {
             let before = desk.clone();
             let reply = desk.answer(&request);
             let moment = Moment { before: &before, after: &desk, request: &request, reply };
-            self.orders.note(&moment);
-            self.signals.note(&moment);
+            self.orders.note(|is_met| is_met(&moment));
+            self.signals.note(|is_met| is_met(&moment));
             self.note_reply(&desk, &request, &reply);
             requests = rest;
         }
@@ -145,7 +145,7 @@ impl Counts {
     fn note_reply(&mut self, desk: &Desk, request: &Request, reply: &Reply) {
         if reply.number == Refusal::Delayed.number() {
             match Delay::of(desk, request, reply) {
-                Some(delay) => self.delays.note(&delay),
+                Some(delay) => self.delays.note(|is_met| is_met(&delay)),
                 None => self.strange += 1,
             }
         }

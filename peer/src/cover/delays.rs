@@ -1,10 +1,9 @@
 //! Who holds it (CR 5): the delays that have to be met, so that a desk that names the holder by
 //! another rule, or tells it in another way, gives another reply.
 
-use super::{print_met, unmet};
+use super::tally::Tally;
 use crate::desk::{delayed_by, Desk, Place};
 use crate::wire::{Operation, Reply, Request};
-use std::io::{self, Write};
 
 /// A delayed request, in the house that it was asked in.
 pub struct Delay<'a> {
@@ -60,7 +59,7 @@ impl<'a> Delay<'a> {
 }
 
 /// One of the things that the delays have to meet.
-type Meets = fn(&Delay) -> bool;
+pub type Meets = fn(&Delay) -> bool;
 
 const MEETS: [(&str, Meets); 13] = [
     ("a read, by one of the asker's level", |at| at.is(Operation::Read) && at.is_of_one_level()),
@@ -97,25 +96,8 @@ const MEETS: [(&str, Meets); 13] = [
     }),
 ];
 
-/// How often each was met.
-#[derive(Default)]
-pub struct Delays([u64; MEETS.len()]);
-
-impl Delays {
-    pub fn note(&mut self, delay: &Delay) {
-        for (count, (_, is_met)) in self.0.iter_mut().zip(MEETS) {
-            *count += u64::from(is_met(delay));
-        }
-    }
-
-    pub fn print(&self, out: &mut impl Write) -> io::Result<()> {
-        writeln!(out, "\nrequests delayed")?;
-        print_met(out, "", &MEETS, &self.0)
-    }
-
-    pub fn faults(&self) -> impl Iterator<Item = String> + '_ {
-        unmet(&MEETS, &self.0).map(|name| format!("never delayed: {name}"))
-    }
+pub fn tally() -> Tally<Meets> {
+    Tally::new("requests delayed", "never delayed", &MEETS)
 }
 
 #[cfg(test)]
@@ -181,7 +163,7 @@ mod tests {
 
     #[test]
     fn each_is_missed_where_nothing_is_delayed() {
-        assert_eq!(Delays::default().faults().count(), MEETS.len());
+        assert_eq!(tally().faults().count(), MEETS.len());
     }
 
     #[test]

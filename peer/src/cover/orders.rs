@@ -2,11 +2,10 @@
 //! of levels, or by the table in another way, gives another reply.
 
 use super::moment::Moment;
-use super::{print_met, unmet};
+use super::tally::Tally;
 use crate::desk::{Place, Refusal};
 use crate::order::Order;
 use crate::wire::Operation;
-use std::io::{self, Write};
 
 impl Moment<'_> {
     fn order(&self) -> Order {
@@ -39,7 +38,7 @@ impl Moment<'_> {
 }
 
 /// One of the things that have to be met.
-type Meets = fn(&Moment) -> bool;
+pub type Meets = fn(&Moment) -> bool;
 
 const MEETS: [(&str, Meets); 10] = [
     ("a read of an item above refused by 8", |at| {
@@ -72,25 +71,8 @@ const MEETS: [(&str, Meets); 10] = [
     }),
 ];
 
-/// How often each was met.
-#[derive(Default)]
-pub struct Orders([u64; MEETS.len()]);
-
-impl Orders {
-    pub fn note(&mut self, moment: &Moment) {
-        for (count, (_, is_met)) in self.0.iter_mut().zip(MEETS) {
-            *count += u64::from(is_met(moment));
-        }
-    }
-
-    pub fn print(&self, out: &mut impl Write) -> io::Result<()> {
-        writeln!(out, "\nrequests by what levels mean to each other")?;
-        print_met(out, "", &MEETS, &self.0)
-    }
-
-    pub fn faults(&self) -> impl Iterator<Item = String> + '_ {
-        unmet(&MEETS, &self.0).map(|name| format!("never met: {name}"))
-    }
+pub fn tally() -> Tally<Meets> {
+    Tally::new("requests by what levels mean to each other", "never met", &MEETS)
 }
 
 #[cfg(test)]

@@ -2,11 +2,10 @@
 //! at another request, or for other items, gives another reply.
 
 use super::moment::Moment;
-use super::{print_met, unmet};
+use super::tally::Tally;
 use crate::desk::{Place, Refusal, Standing};
 use crate::rule::Rule;
 use crate::wire::Operation;
-use std::io::{self, Write};
 
 impl Moment<'_> {
     fn is_refused_as_signalled(&self, operation: Operation) -> bool {
@@ -54,7 +53,7 @@ impl Moment<'_> {
 }
 
 /// One of the things that have to be met.
-type Meets = fn(&Moment) -> bool;
+pub type Meets = fn(&Moment) -> bool;
 
 const UNDER_A: [(&str, Meets); 5] = [
     ("a done certify that signals one", |at| at.signalled().count() == 1),
@@ -115,31 +114,8 @@ fn meets(rule: Rule) -> &'static [(&'static str, Meets)] {
     }
 }
 
-/// How often each was met, of the houses under one rule.
-pub struct Signals {
-    rule: Rule,
-    counts: Vec<u64>,
-}
-
-impl Signals {
-    pub fn new(rule: Rule) -> Signals {
-        Signals { rule, counts: vec![0; meets(rule).len()] }
-    }
-
-    pub fn note(&mut self, moment: &Moment) {
-        for (count, (_, is_met)) in self.counts.iter_mut().zip(meets(self.rule)) {
-            *count += u64::from(is_met(moment));
-        }
-    }
-
-    pub fn print(&self, out: &mut impl Write) -> io::Result<()> {
-        writeln!(out, "\nrequests by the signals they give")?;
-        print_met(out, "", meets(self.rule), &self.counts)
-    }
-
-    pub fn faults(&self) -> impl Iterator<Item = String> + '_ {
-        unmet(meets(self.rule), &self.counts).map(|name| format!("never met: {name}"))
-    }
+pub fn tally(rule: Rule) -> Tally<Meets> {
+    Tally::new("requests by the signals they give", "never met", meets(rule))
 }
 
 #[cfg(test)]
@@ -207,6 +183,6 @@ mod tests {
         for (requests, wanted) in cases {
             assert_eq!(met(Rule::B, &requests), wanted, "{requests}");
         }
-        assert_eq!(Signals::new(Rule::B).faults().count(), UNDER_B.len());
+        assert_eq!(tally(Rule::B).faults().count(), UNDER_B.len());
     }
 }
