@@ -1,6 +1,6 @@
 // A desk whose lock table is Berkeley DB's lock manager: every conflict is found by it, from the
 // matrix of document 01, and every lock is set and released in it. What it does not know (tickets
-// and places, values and versions, signals, labels) is kept beside, in bit sets.
+// and places, values and versions, signals) is kept beside, in bit sets.
 #include "bdb.h"
 
 #include <db.h>
@@ -20,27 +20,17 @@ enum {
     MODES = DB_LOCK_WWRITE + 1
 };
 
-// What a transaction had at a save, but the values.
-struct kept {
-    uint64_t reads, writes;
-    uint8_t counted;
-};
-
 struct place {
     uint32_t ticket;
     uint8_t standing;
     uint32_t locker;
     uint64_t reads, writes, signalled;   // one bit for each item
-    DB_LOCK read[MOST_ITEMS];            // the locks behind `reads`
     DB_LOCK written[MOST_ITEMS];         // the locks behind `writes`
-    uint8_t labels, counted;
-    struct kept kept[MOST_LABELS];
 };
 
 static struct {
     size_t count;
     uint32_t value[MOST_ITEMS], version[MOST_ITEMS], pending[MOST_ITEMS];
-    uint32_t saved[MOST_LABELS][MOST_ITEMS];   // what was pending at its writer's labels: an item has one writer
     uint8_t level[MOST_ITEMS];
     struct place places[PLACES];
     uint32_t next_ticket[LEVELS];
@@ -121,7 +111,6 @@ static void release(struct place *me) {
     me->ticket = 0;
     me->standing = FREE;
     me->reads = me->writes = me->signalled = 0;
-    me->labels = me->counted = 0;
 }
 
 int bdb_open(const struct opening *o) {
@@ -176,19 +165,18 @@ static int read_item(const struct request *q, struct place *me, struct reply *a)
     if (!dominates(house.order, q->level, house.level[q->item])) return WRONG_LEVEL;
     if (me->signalled) return SIGNALLED;
     if (me->standing != ACTIVE) return WRONG_TIME;
-    if (me->counted == MOST_COUNTED) return COUNT_FULL;
     uint64_t bit = UINT64_C(1) << q->item;
     // A lock that is held is not asked for again: no certify can have come over it from its level, and one
     // from below has signalled it, which was answered 2 above. Under rule B it has not, and since nobody is
     // in the way of a lock that he has, another asks.
     int mode = house.level[q->item] != q->level ? MODE_SIGNAL : MODE_READ;
     if (!(me->reads & bit)) {
-        if (!locked(me->locker, q->item, mode, &me->read[q->item])) return delayed(q, q->item, me, a);
+        DB_LOCK lock;
+        if (!locked(me->locker, q->item, mode, &lock)) return delayed(q, q->item, me, a);
         me->reads |= bit;
     } else if (mode == MODE_SIGNAL && house.rule == RULE_B && !is_free(q->item, mode)) {
         return delayed(q, q->item, me, a);
     }
-    me->counted += me->labels > 0;
     bool own = me->writes & bit;
     a->value = own ? house.pending[q->item] : house.value[q->item];
     a->version = house.version[q->item] + (own ? 1 : 0);
@@ -202,14 +190,12 @@ static int write_item(const struct request *q, struct place *me, struct reply *a
     if (me->signalled) return SIGNALLED;
     if (me->standing != ACTIVE) return WRONG_TIME;
     if (house.version[q->item] == UINT32_MAX) return VERSIONS_SPENT;
-    if (me->counted == MOST_COUNTED) return COUNT_FULL;
     uint64_t bit = UINT64_C(1) << q->item;
     if (!(me->writes & bit)) {
         if (!locked(me->locker, q->item, MODE_WRITE, &me->written[q->item]))
             return delayed(q, q->item, me, a);
         me->writes |= bit;
     }
-    me->counted += me->labels > 0;
     house.pending[q->item] = q->value;
     return DONE;
 }
@@ -290,44 +276,6 @@ static int ask(const struct place *me, struct reply *a) {
     return DONE;
 }
 
-static int save(struct place *me, struct reply *a) {
-    if (me->signalled) return SIGNALLED;
-    if (me->standing != ACTIVE) return WRONG_TIME;
-    if (me->labels == MOST_LABELS) return LABELS_TAKEN;
-    me->kept[me->labels] = (struct kept){me->reads, me->writes, me->counted};
-    for (size_t i = 0; i < house.count; i++)
-        if (me->writes >> i & 1) house.saved[me->labels][i] = house.pending[i];
-    a->value = ++me->labels;
-    return DONE;
-}
-
-// The locks that are newer than the label are released in one call.
-static int return_to(const struct request *q, struct place *me) {
-    if (me->standing != ACTIVE) return WRONG_TIME;
-    if (q->value == 0 || q->value > me->labels) return NO_LABEL;
-    const struct kept *kept = &me->kept[q->value - 1];
-    DB_LOCKREQ put[2 * MOST_ITEMS];
-    int n = 0;
-    for (size_t i = 0; i < house.count; i++) {
-        uint64_t bit = UINT64_C(1) << i;
-        if (me->reads & ~kept->reads & bit) put[n++] = (DB_LOCKREQ){.op = DB_LOCK_PUT, .lock = me->read[i]};
-        if (!(me->writes & bit)) continue;
-        bool newer = !(kept->writes & bit);
-        house.pending[i] = newer ? 0 : house.saved[q->value - 1][i];
-        if (newer) put[n++] = (DB_LOCKREQ){.op = DB_LOCK_PUT, .lock = me->written[i]};
-    }
-    if (n > 0) {
-        calls++;
-        must(env->lock_vec(env, me->locker, 0, put, n, NULL), "lock_vec");
-    }
-    me->reads = kept->reads;
-    me->writes = kept->writes;
-    me->signalled &= kept->reads;
-    me->labels = (uint8_t)q->value;
-    me->counted = kept->counted;
-    return DONE;
-}
-
 static int serve(const struct request *q, struct reply *a) {
     int refusal = misshapen(q);
     if (refusal) return refusal;
@@ -341,9 +289,7 @@ static int serve(const struct request *q, struct reply *a) {
     case CERTIFY: return certify(q, me, a);
     case COMMIT: return commit(q, me);
     case ABORT: return end(me, false);
-    case ASK: return ask(me, a);
-    case SAVE: return save(me, a);
-    default: return return_to(q, me);
+    default: return ask(me, a);
     }
 }
 

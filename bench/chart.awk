@@ -3,9 +3,9 @@ BEGIN {
     FS = ","
     words["plain"] = "plain C"; words["steps"] = "plain C, by value"; words["tuned"] = "tuned C"
     words["in_place"] = "proved turn_in_place"; words["turn"] = "proved turn, by value"; words["bdb"] = "Berkeley DB's lock table"
-    kinds = split("refused done pressed lessons savepoints", mixes, " ")
+    kinds = split("refused done pressed lessons", mixes, " ")
     heads["refused"] = "Refused-heavy traffic"; heads["done"] = "Done-heavy traffic"; heads["pressed"] = "Pressed traffic (places nearly full)"
-    heads["lessons"] = "Long lessons (all places held by old tickets)"; heads["savepoints"] = "Savepoints (done-heavy, with saves and returns)"
+    heads["lessons"] = "Long lessons (all places held by old tickets)"
 }
 $1 == "meta" { value = $5; for (k = 6; k <= NF; k++) value = value "," $k; meta[$3] = value }
 $1 == "time" {

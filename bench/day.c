@@ -1,5 +1,5 @@
-// The worked day and M1 to M12 of document 01, two subjects side by side (CR 6), M11 and M12 under rule B (CR 7), the teacher's story
-// (CR 8), and a map, through the calls of the static library. Says each difference; the exit status is 1 where there is one.
+// The worked day and M1 to M12 of document 01, two subjects side by side (CR 6), M11 and M12 under rule B (CR 7), and a map, through the
+// calls of the static library. Says each difference; the exit status is 1 where there is one.
 #include "proved.h"
 #include "wire.h"
 
@@ -46,8 +46,6 @@ static const struct opening marked = {marked_levels, sizeof marked_levels, chain
 #define CERTIFY_DELAYED(l, t, holder, level)                                                     \
     {{CERTIFY, l, 0, t, 0}, {DELAYED, CERTIFY, 0, t, holder, level}}
 #define ASKS(l, t, i, count) {{ASK, l, 0, t, 0}, {DONE, ASK, i, t, count, 0}}
-#define SAVES(l, t, label) {{SAVE, l, 0, t, 0}, {DONE, SAVE, 0, t, label, 0}}
-#define RETURNS(l, t, label) {{RETURN, l, 0, t, label}, {DONE, RETURN, 0, t, 0, 0}}
 #define CALLS(operation, l, t, n) {{operation, l, 0, t, 0}, {n, operation, 0, t, 0, 0}}
 
 // Level-0 tickets 1 and 2 and level-2 ticket 1 are open.
@@ -113,13 +111,6 @@ static const struct step gives_up[] = {
     WRITES(0, 2, 0, 8, DONE), CALLS(CERTIFY, 0, 2, DONE), ASKS(2, 2, 0, 0),
     CALLS(COMMIT, 0, 2, DONE), ASKS(2, 2, 0, 1), CALLS(CERTIFY, 2, 2, SIGNALLED),
     CALLS(ABORT, 2, 2, DONE)};
-// The teacher who is overtaken on a second reading need not mark the whole sheet again (CR 8).
-static const struct step story[] = {
-    THREE_OPEN, READS(2, 1, 1, 0, 0), SAVES(2, 1, 1), READS(2, 1, 0, 0, 0), WRITES(0, 1, 0, 7, DONE),
-    CALLS(CERTIFY, 0, 1, DONE), CALLS(SAVE, 2, 1, SIGNALLED), RETURNS(2, 1, 1), ASKS(2, 1, 0, 0),
-    READ_DELAYED(2, 1, 0, 1, 0), CALLS(COMMIT, 0, 1, DONE), READS(2, 1, 0, 7, 1),
-    WRITES(2, 1, 2, 9, DONE), CALLS(CERTIFY, 2, 1, DONE), CALLS(COMMIT, 2, 1, DONE), BEGINS(2, 2),
-    READS(2, 2, 2, 9, 1)};
 // On the diamond, one item at each level: item 1 is geography's, item 2 history's.
 #define ONE_OF_EACH BEGINS(0, 1), BEGINS(1, 1), BEGINS(2, 1), BEGINS(3, 1)
 static const struct step geography_reads[] = {
@@ -181,7 +172,6 @@ static const struct example examples[] = {
     EXAMPLE("M11 under B, the commit signals who is certified", marked_b, signalled_certified),
     EXAMPLE("M12 under B, the abort signals nobody", marked_b, spared_by_abort),
     EXAMPLE("a pupil gives up under B", recipe_b, gives_up),
-    EXAMPLE("the teacher's story", marked, story),
     EXAMPLE("geography reads", subjects, geography_reads),
     EXAMPLE("history reads", subjects, history_reads),
     EXAMPLE("a pupil certifies", subjects, pupil_certifies),
@@ -348,7 +338,7 @@ int main(void) {
     // More than all places, and one byte too few for the last.
     try_map(5 * REPLY_BYTES + 9);
     try_map(4 * REPLY_BYTES - 1);
-    printf("openings, the worked day, M1 to M12, M11 and M12 under rule B, the teacher's story, two subjects and a map: %zu calls, %zu differ\n",
+    printf("openings, the worked day, M1 to M12, M11 and M12 under rule B, two subjects and a map: %zu calls, %zu differ\n",
            calls, differing);
     return differing == 0 ? 0 : 1;
 }

@@ -56,12 +56,10 @@ static int read_item(struct plain_house *h, const struct request *q, int me, str
     if (!dominates(h->order, q->level, item->level)) return WRONG_LEVEL;
     if (plain_is_signalled(h, me)) return SIGNALLED;
     if (h->places[me].standing != ACTIVE) return WRONG_TIME;
-    if (h->places[me].counted == MOST_COUNTED) return COUNT_FULL;
     int p = holder(h, q->item, me, CERTIFIES);
     if (p != NOBODY) return delayed_by(a, h->places[p].ticket, p);
     uint8_t *cell = &h->cells[q->item][me];
-    if (!(*cell & READS)) *cell |= (uint8_t)(READS | h->places[me].labels << SINCE);
-    if (h->places[me].labels > 0) h->places[me].counted++;
+    *cell |= READS;
     if (*cell & WRITES) {
         a->value = item->pending;
         a->version = item->version + 1;
@@ -80,14 +78,10 @@ static int write_item(struct plain_house *h, const struct request *q, int me, st
     if (plain_is_signalled(h, me)) return SIGNALLED;
     if (h->places[me].standing != ACTIVE) return WRONG_TIME;
     if (item->version == UINT32_MAX) return VERSIONS_SPENT;
-    if (h->places[me].counted == MOST_COUNTED) return COUNT_FULL;
     int p = holder(h, q->item, me, WRITES | CERTIFIES);
     if (p != NOBODY) return delayed_by(a, h->places[p].ticket, p);
-    uint8_t *cell = &h->cells[q->item][me];
-    if (!(*cell & WRITES)) item->written_since = h->places[me].labels;
-    *cell |= WRITES;
+    h->cells[q->item][me] |= WRITES;
     item->pending = q->value;
-    if (h->places[me].labels > 0) h->places[me].counted++;
     return DONE;
 }
 
@@ -155,38 +149,6 @@ static int ask(const struct plain_house *h, int me, struct reply *a) {
     return DONE;
 }
 
-static int save(struct plain_house *h, int me, struct reply *a) {
-    struct plain_place *place = &h->places[me];
-    if (plain_is_signalled(h, me)) return SIGNALLED;
-    if (place->standing != ACTIVE) return WRONG_TIME;
-    if (place->labels == MOST_LABELS) return LABELS_TAKEN;
-    place->counted_at[place->labels] = place->counted;
-    for (size_t i = 0; i < h->count; i++)
-        if (h->cells[i][me] & WRITES) h->items[i].saved[place->labels] = h->items[i].pending;
-    a->value = ++place->labels;
-    return DONE;
-}
-
-// Labels are always 1 to some number, so a lock is newer than the label exactly if that many there were when it was taken.
-static int return_to(struct plain_house *h, const struct request *q, int me) {
-    struct plain_place *place = &h->places[me];
-    if (place->standing != ACTIVE) return WRONG_TIME;
-    if (q->value == 0 || q->value > place->labels) return NO_LABEL;
-    uint8_t label = (uint8_t)q->value;
-    for (size_t i = 0; i < h->count; i++) {
-        struct plain_item *item = &h->items[i];
-        uint8_t *cell = &h->cells[i][me];
-        if ((*cell & READS) && *cell >> SINCE >= label) *cell &= WRITES;
-        if (!(*cell & WRITES)) continue;
-        bool newer = item->written_since >= label;
-        item->pending = newer ? 0 : item->saved[label - 1];
-        if (newer) *cell ^= WRITES;
-    }
-    place->labels = label;
-    place->counted = place->counted_at[label - 1];
-    return DONE;
-}
-
 static int serve(struct plain_house *h, const struct request *q, struct reply *a) {
     int refusal = misshapen(q);
     if (refusal) return refusal;
@@ -199,9 +161,7 @@ static int serve(struct plain_house *h, const struct request *q, struct reply *a
     case CERTIFY: return certify(h, q, me, a);
     case COMMIT: return commit(h, me);
     case ABORT: end(h, me, false); return DONE;
-    case ASK: return ask(h, me, a);
-    case SAVE: return save(h, me, a);
-    default: return return_to(h, q, me);
+    default: return ask(h, me, a);
     }
 }
 

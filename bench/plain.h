@@ -6,19 +6,15 @@
 
 enum { FREE, ACTIVE, CERTIFIED };
 enum { READS = 1, WRITES = 2, CERTIFIES = 4, IS_SIGNALLED = 8 };
-enum { SINCE = 4 };   // above a cell's marks: how many labels there were when its read lock was taken
 
 struct plain_item {
     uint32_t value, version, pending;
-    uint8_t level, written_since;      // how many labels its writer had when it took the lock
-    uint32_t saved[MOST_LABELS];       // what was pending at the writer's labels
+    uint8_t level;
 };
 
 struct plain_place {
     uint32_t ticket;
     uint8_t standing;
-    uint8_t labels, counted;           // labels are 1 to this number; done reads and writes since the first
-    uint8_t counted_at[MOST_LABELS];
 };
 
 struct plain_house {

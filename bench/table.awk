@@ -3,14 +3,13 @@ BEGIN {
     FS = ","
     words["plain"] = "plain C"; words["steps"] = "plain C, by value"; words["tuned"] = "tuned C"
     words["in_place"] = "**proved `turn_in_place`**"; words["turn"] = "**proved `turn`**, by value"; words["bdb"] = "Berkeley DB's lock table"
-    kinds = split("refused done pressed lessons savepoints", mixes, " ")
-    heads["refused"] = "refused-heavy"; heads["done"] = "done-heavy"; heads["pressed"] = "pressed"; heads["lessons"] = "long lessons"; heads["savepoints"] = "savepoints"
-    named = split("begin read write certify commit abort ask save return", operations, " ")
+    kinds = split("refused done pressed lessons", mixes, " ")
+    heads["refused"] = "refused-heavy"; heads["done"] = "done-heavy"; heads["pressed"] = "pressed"; heads["lessons"] = "long lessons"
+    split("begin read write certify commit abort ask", operations, " ")
     meaning[0] = "done"; meaning[1] = "delayed"; meaning[2] = "signalled"; meaning[3] = "no such operation"
     meaning[4] = "no such level"; meaning[5] = "an unused field is not zero"; meaning[6] = "no such transaction"
     meaning[7] = "no such item"; meaning[8] = "wrong level"; meaning[9] = "wrong time"; meaning[10] = "versions spent"
     meaning[11] = "all places taken"; meaning[12] = "no ticket left"; meaning[15] = "blank sheet"
-    meaning[17] = "count full"; meaning[18] = "labels taken"; meaning[19] = "no such label"
 }
 $1 == "meta" { value = $5; for (k = 6; k <= NF; k++) value = value "," $k; meta[$3] = value }
 $1 == "time" || $1 == "x86_64" { if (!($3 in seen)) { seen[$3] = 1; desks[++n] = $3 } }
@@ -88,11 +87,11 @@ END {
     if (read) maps()
 
     head("the mix met: reply, share in percent")
-    for (k = 0; k <= 19; k++) {
+    for (k = 0; k <= 15; k++) {
         line = ""; met = 0
         for (m = 1; m <= kinds; m++) { met += of_number[mixes[m], k]; line = line shared(of_number[mixes[m], k], mixes[m]) }
         if (met) row(k " " meaning[k], line)
-        for (o = 0; met && k < 2 && o < named; o++) {
+        for (o = 0; met && k < 2 && o < 7; o++) {
             line = ""; met_here = 0
             for (m = 1; m <= kinds; m++) { c = of_both[mixes[m], o, k]; met_here += c; line = line shared(c, mixes[m]) }
             if (met_here) row("&emsp;" operations[o + 1], line)

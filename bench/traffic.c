@@ -2,7 +2,7 @@
 
 #include "plain.h"
 
-const char *const mix_names[MIXES] = {"refused", "done", "pressed", "lessons", "pressed_b", "savepoints"};
+const char *const mix_names[MIXES] = {"refused", "done", "pressed", "lessons", "pressed_b"};
 
 _Static_assert(ITEMS % 4 == 0 && ITEMS > 0 && ITEMS <= 64, "items of the traffic");
 #define FOUR 0, 1, 2, 3
@@ -25,7 +25,7 @@ struct recipe {
     unsigned misshapen;    // no such operation, level or item; an unused field set
     // The rest are requests of open transactions.
     unsigned crowd;        // how many are kept open on each level
-    unsigned heed;         // how many of a thousand requests of a signalled one are its abort, or its return
+    unsigned heed;         // how many of a thousand requests of a signalled one are its abort
     unsigned own_level;    // how many of a thousand reads are of items on the reader's own level
     unsigned weights[OPERATIONS];
 };
@@ -45,8 +45,6 @@ static const struct recipe recipes[MIXES] = {
     // About three of a thousand requests end a transaction: it stays for some 9,000.
     [LONG_LESSONS] = {.stale = 75, .begins = 75, .misshapen = 15, .crowd = 8, .heed = 200,
                       .own_level = 300, .weights = {0, 780, 100, 3, 0, 1, 116}},
-    [SAVEPOINTS] = {.misshapen = 20, .crowd = 4, .heed = 700, .own_level = 300,
-                    .weights = {0, 560, 250, 60, 0, 20, 20, 80, 40}},
 };
 
 struct maker {
@@ -105,28 +103,16 @@ static enum operation weighed(struct maker *m) {
     return (enum operation)o;
 }
 
-// One that is signalled returns to a label where it has one, or gives up; without a label nothing is returned to, and where all
-// are taken nothing more is saved.
-static enum operation sensible(struct maker *m, int me) {
-    const struct plain_place *place = &m->house.places[me];
-    enum operation operation = weighed(m);
-    if (place->standing == CERTIFIED) operation = below(m, 12) ? COMMIT : ASK;
-    if (plain_is_signalled(&m->house, me) && below(m, 1000) < m->recipe->heed) {
-        operation = below(m, 4) ? ABORT : ASK;
-        if (operation == ABORT && place->labels > 0 && below(m, 4)) operation = RETURN;
-    }
-    if (operation == RETURN && place->labels == 0) return SAVE;
-    if (operation == SAVE && place->labels == MOST_LABELS && below(m, 8)) return RETURN;
-    return operation;
-}
-
 static struct request of_open(struct maker *m, unsigned level) {
     struct request q = {.operation = BEGIN, .level = (uint8_t)level};
     unsigned open = open_at(m, level);
     if (open < m->recipe->crowd && (open == 0 || below(m, 2) == 0)) return q;
     int me = somebody(m, level, open);
     q.ticket = m->house.places[me].ticket;
-    enum operation operation = sensible(m, me);
+    enum operation operation = weighed(m);
+    if (m->house.places[me].standing == CERTIFIED) operation = below(m, 12) ? COMMIT : ASK;
+    if (plain_is_signalled(&m->house, me) && below(m, 1000) < m->recipe->heed)
+        operation = below(m, 4) ? ABORT : ASK;
     q.operation = (uint8_t)operation;
     if (operation == READ) {
         bool own = level == 0 || below(m, 1000) < m->recipe->own_level;
@@ -136,12 +122,11 @@ static struct request of_open(struct maker *m, unsigned level) {
         q.item = item_at(m, level);
         q.value = sheet(m);
     }
-    if (operation == RETURN) q.value = 1 + below(m, m->house.places[me].labels);
     return q;
 }
 
 static struct request stale(struct maker *m, unsigned level) {
-    struct request q = {.operation = (uint8_t)(READ + below(m, ASK + 1 - READ)),
+    struct request q = {.operation = (uint8_t)(READ + below(m, OPERATIONS - READ)),
                         .level = (uint8_t)level};
     if (q.operation == READ || q.operation == WRITE) q.item = item_at(m, below(m, LEVELS));
     if (q.operation == WRITE) q.value = sheet(m);

@@ -4,7 +4,7 @@
 
 #include "wire.h"
 
-enum mix { REFUSED_HEAVY, DONE_HEAVY, PRESSED, LONG_LESSONS, PRESSED_UNDER_B, SAVEPOINTS, MIXES };
+enum mix { REFUSED_HEAVY, DONE_HEAVY, PRESSED, LONG_LESSONS, PRESSED_UNDER_B, MIXES };
 
 extern const char *const mix_names[MIXES];   // short, for the command line and the raw figures
 

@@ -1,6 +1,5 @@
 // The tuned C desk: a transaction's 64 cells lie together, and the loops over them have no early
-// exit, so that the compiler makes a few vector operations of each. A save copies the cells, so that reads
-// and writes pay for no more than their count.
+// exit, so that the compiler makes a few vector operations of each.
 #include "tuned.h"
 
 #include <string.h>
@@ -77,9 +76,7 @@ static inline int read_item(struct tuned_house *h, const struct request *q, int 
     if (!(h->below[q->level] >> h->level[i] & 1)) return WRONG_LEVEL;
     if (is_signalled(h, me)) return SIGNALLED;
     if (h->certified[me]) return WRONG_TIME;
-    if (h->counted[me] == MOST_COUNTED) return COUNT_FULL;
     if (held_by_others(h, i, me) & CERTIFIES) return delayed(h, i, me, CERTIFIES, a);
-    h->counted[me] += h->labels[me] != 0;
     uint8_t cell = h->cells[me][i];
     h->cells[me][i] = cell | READS;
     a->value = cell & WRITES ? h->pending[i] : h->value[i];
@@ -96,10 +93,8 @@ static inline int write_item(struct tuned_house *h, const struct request *q, int
     if (is_signalled(h, me)) return SIGNALLED;
     if (h->certified[me]) return WRONG_TIME;
     if (h->version[i] == UINT32_MAX) return VERSIONS_SPENT;
-    if (h->counted[me] == MOST_COUNTED) return COUNT_FULL;
     if (held_by_others(h, i, me) & (WRITES | CERTIFIES))
         return delayed(h, i, me, WRITES | CERTIFIES, a);
-    h->counted[me] += h->labels[me] != 0;
     h->cells[me][i] |= WRITES;
     h->pending[i] = q->value;
     return DONE;
@@ -150,8 +145,6 @@ static inline void end(struct tuned_house *h, int me, bool keep) {
     memset(h->cells[me], 0, MOST_ITEMS);
     h->ticket[me] = 0;
     h->certified[me] = 0;
-    h->labels[me] = 0;
-    h->counted[me] = 0;
 }
 
 static inline int commit(struct tuned_house *h, int me) {
@@ -178,38 +171,6 @@ static inline int ask(const struct tuned_house *h, int me, struct reply *a) {
     return DONE;
 }
 
-static inline int save(struct tuned_house *h, int me, struct reply *a) {
-    if (is_signalled(h, me)) return SIGNALLED;
-    if (h->certified[me]) return WRONG_TIME;
-    int n = h->labels[me];
-    if (n == MOST_LABELS) return LABELS_TAKEN;
-    memcpy(h->kept[me][n], h->cells[me], MOST_ITEMS);
-    for (int i = 0; i < MOST_ITEMS; i++)
-        h->saved[n][i] = h->cells[me][i] & WRITES ? h->pending[i] : h->saved[n][i];
-    h->counted_at[me][n] = h->counted[me];
-    h->labels[me] = (uint8_t)(n + 1);
-    a->value = (uint32_t)n + 1;
-    return DONE;
-}
-
-// The locks are those kept. What is kept read stays signalled where it is; nothing was signalled at the save.
-static inline int return_to(struct tuned_house *h, const struct request *q, int me) {
-    if (h->certified[me]) return WRONG_TIME;
-    if (q->value == 0 || q->value > h->labels[me]) return NO_LABEL;
-    uint32_t n = q->value - 1;
-    uint8_t *cells = h->cells[me];
-    const uint8_t *kept = h->kept[me][n];
-    for (int i = 0; i < MOST_ITEMS; i++) {
-        uint32_t back = kept[i] & WRITES ? h->saved[n][i] : 0;
-        h->pending[i] = cells[i] & WRITES ? back : h->pending[i];
-    }
-    for (int i = 0; i < MOST_ITEMS; i++)
-        cells[i] = (uint8_t)(kept[i] | (cells[i] & (kept[i] & READS) * IS_SIGNALLED));
-    h->labels[me] = (uint8_t)(n + 1);
-    h->counted[me] = h->counted_at[me][n];
-    return DONE;
-}
-
 static inline int serve(struct tuned_house *h, const struct request *q, struct reply *a) {
     int refusal = misshapen(q);
     if (refusal) return refusal;
@@ -222,9 +183,7 @@ static inline int serve(struct tuned_house *h, const struct request *q, struct r
     case CERTIFY: return certify(h, q, me, a);
     case COMMIT: return commit(h, me);
     case ABORT: end(h, me, false); return DONE;
-    case ASK: return ask(h, me, a);
-    case SAVE: return save(h, me, a);
-    default: return return_to(h, q, me);
+    default: return ask(h, me, a);
     }
 }
 

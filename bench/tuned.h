@@ -14,10 +14,6 @@ struct tuned_house {
     uint8_t below[LEVELS], above[LEVELS];   // of each level a set of levels: those it dominates; those above it
     uint8_t rule;
     uint8_t cells[PLACES][MOST_ITEMS];
-    uint8_t labels[PLACES], counted[PLACES];
-    uint8_t counted_at[PLACES][MOST_LABELS];
-    uint8_t kept[PLACES][MOST_LABELS][MOST_ITEMS];   // the cells at each label
-    uint32_t saved[MOST_LABELS][MOST_ITEMS];         // what was pending at its writer's labels: an item has one writer
 };
 
 int tuned_open(struct tuned_house *h, const struct opening *o);

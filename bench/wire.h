@@ -8,8 +8,7 @@
 
 enum { LEVELS = 4, PLACES_PER_LEVEL = 8, PLACES = LEVELS * PLACES_PER_LEVEL, MOST_ITEMS = 64 };
 enum { REQUEST_BYTES = 12, REPLY_BYTES = 16, TABLE_BYTES = LEVELS * LEVELS };
-enum { MOST_LABELS = 4, MOST_COUNTED = 32 };   // of savepoints (CR 8)
-enum operation { BEGIN, READ, WRITE, CERTIFY, COMMIT, ABORT, ASK, SAVE, RETURN, OPERATIONS };
+enum operation { BEGIN, READ, WRITE, CERTIFY, COMMIT, ABORT, ASK, OPERATIONS };
 
 enum number {
     DONE = 0,
@@ -29,9 +28,6 @@ enum number {
     LEVEL_BYTE = 14,
     BLANK_SHEET = 15,
     NO_ORDER = 16,
-    COUNT_FULL = 17,
-    LABELS_TAKEN = 18,
-    NO_LABEL = 19,
     NO_RULE = 28,
     NUMBERS
 };
@@ -110,8 +106,7 @@ static inline int misshapen(const struct request *q) {
     bool uses_item = q->operation == READ || q->operation == WRITE;
     if (!uses_item && q->item != 0) return UNUSED_SET;
     if (q->operation == BEGIN && q->ticket != 0) return UNUSED_SET;
-    bool uses_value = q->operation == WRITE || q->operation == RETURN;
-    if (!uses_value && q->value != 0) return UNUSED_SET;
+    if (q->operation != WRITE && q->value != 0) return UNUSED_SET;
     return 0;
 }
 

@@ -300,7 +300,7 @@ mod tests {
     #[test]
     fn each_slip_of_the_trade_shows_in_the_bytes() {
         // Slips of the opening need no requests, but many openings.
-        let seeds = (0..200).map(|seed| (seed, 400)).chain((0..400).map(|seed| (seed, 1)));
+        let seeds = (0..120).map(|seed| (seed, 400)).chain((0..400).map(|seed| (seed, 1)));
         let cases: Vec<(Rule, Vec<u8>, Vec<u8>)> = seeds
             .map(|(seed, requests)| {
                 let rule = generator::rule_of(seed);

@@ -21,11 +21,10 @@ const PAUSE: Duration = Duration::from_millis(4);
 type Scene = fn(&str) -> Result<u64, Stop>;
 
 /// Each scene gives the number of requests that were answered.
-const SCENES: [(&str, Scene); 8] = [
+const SCENES: [(&str, Scene); 7] = [
     ("the worked day", worked_day),
     ("header and requests in pieces", in_pieces),
     ("several transactions interleaved", interleaved),
-    ("a teacher who returns to a savepoint", returning),
     ("generated dialogues", generated),
     ("several requests at once, the last one unfinished", in_bursts),
     ("refused openings", refused_openings),
@@ -164,43 +163,9 @@ const INTERLEAVED: [(&str, u8); 24] = [
     ("commit 0 #3", 0),
 ];
 
-/// A teacher reads, saves, reads more and is overtaken there; returns, reads that again and commits.
-const RETURNING: [(&str, u8); 21] = [
-    ("begin 0", 0),
-    ("begin 2", 0),
-    ("read 2 #1 item 0", 0),
-    ("write 2 #1 item 2 = 5", 0),
-    ("return 2 #1 to 1", 19),
-    ("save 2 #1", 0),
-    ("read 2 #1 item 1", 0),
-    ("write 2 #1 item 2 = 6", 0),
-    ("write 0 #1 item 1 = 7", 0),
-    ("certify 0 #1", 0),
-    ("commit 0 #1", 0),
-    ("read 2 #1 item 1", 2),
-    ("save 2 #1", 2),
-    ("return 2 #1 to 1", 0),
-    ("ask 2 #1", 0),
-    ("read 2 #1 item 2", 0),
-    ("read 2 #1 item 1", 0),
-    ("save 2 #1", 0),
-    ("certify 2 #1", 0),
-    ("return 2 #1 to 2", 9),
-    ("commit 2 #1", 0),
-];
-
 fn interleaved(command: &str) -> Result<u64, Stop> {
-    play(command, &INTERLEAVED)
-}
-
-fn returning(command: &str) -> Result<u64, Stop> {
-    play(command, &RETURNING)
-}
-
-/// Asks these requests one by one in a house with two items at level 0 and one at level 2.
-fn play(command: &str, day: &[(&str, u8)]) -> Result<u64, Stop> {
     let mut client = Client::open(command, &header(&[0, 0, 2], &Order::CHAIN.table()), 4)?;
-    for &(line, number) in day {
+    for (line, number) in INTERLEAVED {
         let request = words::parse_request(line).map_err(Stop::Cannot)?;
         let reply = client.ask(&request)?;
         if reply.number != number {

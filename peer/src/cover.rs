@@ -5,7 +5,6 @@ mod moment;
 mod openings;
 mod orders;
 mod rules;
-mod savepoints;
 mod tally;
 
 use crate::desk::{Desk, Place, Refusal, Standing, PLACES_PER_LEVEL};
@@ -19,35 +18,31 @@ use crate::wire::{Operation, Reply, Request, REQUEST_BYTES};
 use delays::Delay;
 use moment::Moment;
 use openings::Openings;
-use std::collections::HashSet;
 use std::io::{self, Write};
 use tally::Tally;
 
-/// Rows: the operations, then all numbers above 8 together.
-const ROWS: usize = 10;
+/// Rows: the operations, then all numbers above 6 together.
+const ROWS: usize = 8;
 const ROW_NAMES: [&str; ROWS] =
-    ["begin", "read", "write", "certify", "commit", "abort", "ask", "save", "return", "above 8"];
+    ["begin", "read", "write", "certify", "commit", "abort", "ask", "above 6"];
 /// Columns: the reply numbers that a request can get.
-const NUMBERS: [u8; 17] = [0, 1, 2, 3, 4, 5, 6, 7, 8, 9, 10, 11, 12, 15, 17, 18, 19];
+const NUMBERS: [u8; 14] = [0, 1, 2, 3, 4, 5, 6, 7, 8, 9, 10, 11, 12, 15];
 
 /// The numbers each operation can get in a run. A number is missing where its row in the
 /// table names another operation, or a field that the operation does not have.
 const REACHABLE: [&[u8]; ROWS] = [
     // Begin names no transaction and no item (no 6, 7, 8, 2, 9) and takes no lock (no 1).
     &[0, 4, 5, 11],
-    &[0, 1, 2, 4, 5, 6, 7, 8, 9, 17],
+    &[0, 1, 2, 4, 5, 6, 7, 8, 9],
     // Write uses every field, so none is left to be 5.
-    &[0, 1, 2, 4, 6, 7, 8, 9, 15, 17],
-    // The others name no item (no 7, 8) and are not counted (no 17).
+    &[0, 1, 2, 4, 6, 7, 8, 9, 15],
+    // Certify, commit, abort and ask name no item (no 7, 8).
     &[0, 1, 2, 4, 5, 6, 9],
     // A commit is never delayed: its locks were settled by the certify.
     &[0, 2, 4, 5, 6, 9],
     // Abort and ask work whether or not signalled or certified (no 2, 9).
     &[0, 4, 5, 6],
     &[0, 4, 5, 6],
-    &[0, 2, 4, 5, 6, 9, 18],
-    // A return works whether or not signalled (no 2).
-    &[0, 4, 5, 6, 9, 19],
     // The operation is checked before anything else.
     &[3],
 ];
@@ -85,9 +80,6 @@ struct Counts {
     openings: Openings,
     orders: Tally<orders::Meets>,
     signals: Tally<rules::Meets>,
-    savepoints: Tally<savepoints::Meets>,
-    /// Returns to a label that was returned to before, since it was given.
-    returned_again: u64,
     /// Replies that no reading of the rules allows.
     strange: u64,
 }
@@ -104,8 +96,6 @@ impl Counts {
             openings: Openings::default(),
             orders: orders::tally(),
             signals: rules::tally(rule),
-            savepoints: savepoints::tally(),
-            returned_again: 0,
             strange: 0,
         }
     }
@@ -118,7 +108,6 @@ impl Counts {
             return;
         };
         self.openings.note_opened(desk.order);
-        let mut returned = HashSet::new();
         while let Some((bytes, rest)) = requests.split_first_chunk::<REQUEST_BYTES>() {
             let request = Request::from_bytes(bytes);
             self.note_named(&desk, &request);
@@ -128,8 +117,6 @@ impl Counts {
             let moment = Moment { before: &before, after: &desk, request: &request, reply };
             self.orders.note(|is_met| is_met(&moment));
             self.signals.note(|is_met| is_met(&moment));
-            self.savepoints.note(|is_met| is_met(&moment));
-            self.returned_again += u64::from(moment.returns_again(&mut returned));
             self.note_reply(&desk, &request, &reply);
             requests = rest;
         }
@@ -196,10 +183,6 @@ impl Counts {
         faults.extend(self.delays.faults());
         faults.extend(self.orders.faults());
         faults.extend(self.signals.faults());
-        faults.extend(self.savepoints.faults());
-        if self.returned_again == 0 {
-            faults.push("nobody returned twice to a label".to_string());
-        }
         faults.extend(self.openings.faults());
         if self.strange > 0 {
             faults.push(format!("{} replies are such as nobody may give", self.strange));
@@ -218,24 +201,6 @@ impl Counts {
     fn print(&self, out: &mut impl Write) -> io::Result<()> {
         writeln!(out, "UNDER RULE {}", self.rule)?;
         self.openings.print(out)?;
-        self.print_replies(out)?;
-        let blank: Vec<String> =
-            self.blank_writes().map(|(number, count)| format!("{number} {count}")).collect();
-        writeln!(out, "\nwrites of 0 by the answer to the same write of 1: {}", blank.join("; "))?;
-        writeln!(
-            out,
-            "requests by the places that their search passes, 0 to 7: {}",
-            self.passed.map(|count| count.to_string()).join("; ")
-        )?;
-        self.delays.print(out)?;
-        self.orders.print(out)?;
-        self.signals.print(out)?;
-        self.savepoints.print(out)?;
-        writeln!(out, "a return to a label that was returned to before: {}", self.returned_again)?;
-        self.print_standings(out)
-    }
-
-    fn print_replies(&self, out: &mut impl Write) -> io::Result<()> {
         writeln!(
             out,
             "\nreplies by operation and number (. cannot be, far: out of reach in a run)"
@@ -254,10 +219,17 @@ impl Counts {
         for (operation, number, why) in OUT_OF_REACH {
             writeln!(out, "far: {} answered {number} {why}", operation.name())?;
         }
-        Ok(())
-    }
-
-    fn print_standings(&self, out: &mut impl Write) -> io::Result<()> {
+        let blank: Vec<String> =
+            self.blank_writes().map(|(number, count)| format!("{number} {count}")).collect();
+        writeln!(out, "\nwrites of 0 by the answer to the same write of 1: {}", blank.join("; "))?;
+        writeln!(
+            out,
+            "requests by the places that their search passes, 0 to 7: {}",
+            self.passed.map(|count| count.to_string()).join("; ")
+        )?;
+        self.delays.print(out)?;
+        self.orders.print(out)?;
+        self.signals.print(out)?;
         writeln!(out, "\nrequests by operation and standing of the transaction named")?;
         for operation in Operation::ALL.into_iter().filter(|operation| operation.uses_ticket()) {
             let counts = self.standings[usize::from(operation.number())];
@@ -349,7 +321,7 @@ mod tests {
 
     #[test]
     fn enough_inputs_meet_everything() {
-        assert!(cover(600, 400, &mut io::sink()).is_ok());
+        assert!(cover(600, 200, &mut io::sink()).is_ok());
     }
 
     #[test]
@@ -363,8 +335,6 @@ mod tests {
             "no opening was refused 16: three levels that are not transitive alone",
             "under rule A: never met: signals of level 3 to level 0 above it",
             "under rule B: never met: a done commit that signals several",
-            "under rule A: never met: a return from a full count",
-            "under rule B: nobody returned twice to a label",
         ];
         for words in wanted {
             assert!(faults.contains(words), "{words}: {faults}");

@@ -1,5 +1,5 @@
 //! The desk: the house of document 01 and its rules, with the change requests that have landed
-//! (CR 1, CR 5, CR 6, CR 7, CR 8), written as plainly as they stand there.
+//! (CR 1, CR 5, CR 6, CR 7), written as plainly as they stand there.
 
 use crate::opening::Opening;
 use crate::order::{Order, Table};
@@ -13,9 +13,6 @@ pub mod tests;
 pub const LEVELS: u8 = 4;
 pub const PLACES_PER_LEVEL: usize = 8;
 pub const MOST_ITEMS: usize = 64;
-pub const MOST_LABELS: usize = 4;
-/// How many done reads and writes are counted at most (CR 8).
-pub const MOST_COUNTED: u32 = 32;
 
 /// The reply numbers other than 0 (done).
 #[derive(Clone, Copy, Debug, PartialEq, Eq)]
@@ -36,9 +33,6 @@ pub enum Refusal {
     LevelByte = 14,
     BlankSheet = 15,
     NoOrder = 16,
-    CountFull = 17,
-    LabelsTaken = 18,
-    NoLabel = 19,
     NoRule = 28,
 }
 
@@ -48,7 +42,7 @@ impl Refusal {
     }
 }
 
-#[derive(Clone, Copy, Debug, PartialEq, Eq)]
+#[derive(Clone, Debug, PartialEq, Eq)]
 pub struct Item {
     pub level: u8,
     pub value: u32,
@@ -71,15 +65,6 @@ pub enum Standing {
     Certified,
 }
 
-/// What a transaction had when it saved (CR 8): whole copies of its locks and of the pending values
-/// of what it had written, both by item, and its count.
-#[derive(Clone, Debug, PartialEq, Eq)]
-pub struct Save {
-    pub cells: BTreeMap<usize, Cell>,
-    pub pending: BTreeMap<usize, u32>,
-    pub counted: u32,
-}
-
 /// One of the eight places of a level, with the cells of its transaction by item.
 /// An item that is not in the map has a clear cell.
 #[derive(Clone, Debug, PartialEq, Eq)]
@@ -88,22 +73,11 @@ pub struct Place {
     pub standing: Standing,
     pub ticket: u32,
     pub cells: BTreeMap<usize, Cell>,
-    /// The saves by their labels, from label 1 on.
-    pub saves: Vec<Save>,
-    /// The done reads and writes since the first label; 0 without one.
-    pub counted: u32,
 }
 
 impl Place {
     fn free(level: u8) -> Place {
-        Place {
-            level,
-            standing: Standing::Free,
-            ticket: 0,
-            cells: BTreeMap::new(),
-            saves: Vec::new(),
-            counted: 0,
-        }
+        Place { level, standing: Standing::Free, ticket: 0, cells: BTreeMap::new() }
     }
 
     pub fn is_taken(&self) -> bool {
@@ -137,28 +111,6 @@ impl Place {
 
     pub fn reads_one_of(&self, items: &[usize]) -> bool {
         items.iter().any(|&item| self.cell(item).read)
-    }
-
-    /// What it had at the save of this label, if it has such a label.
-    pub fn save_at(&self, label: u32) -> Option<&Save> {
-        self.saves.get((label as usize).checked_sub(1)?)
-    }
-
-    /// Notes a done read or write. Before the first label nothing is counted.
-    fn count(&mut self) {
-        self.counted += u32::from(!self.saves.is_empty());
-    }
-
-    /// The locks are those of the save. A lock that is kept stays signalled, and a signal goes with
-    /// the read lock that it was given to.
-    fn return_to(&mut self, label: u32, save: Save) {
-        let signalled = self.signalled();
-        self.cells = save.cells;
-        for (item, cell) in &mut self.cells {
-            cell.signalled = cell.read && signalled.contains(item);
-        }
-        self.counted = save.counted;
-        self.saves.truncate(label as usize);
     }
 }
 
@@ -217,7 +169,7 @@ impl Desk {
     }
 
     /// The checks of every request come first (3, 4, 5); each operation goes on in the order
-    /// 6, 7, 8, 15, 2, 9, 18, 19, 10, 17, 11, 12, 1 with those that concern it.
+    /// 6, 7, 8, 15, 2, 9, 10, 11, 12, 1 with those that concern it.
     fn serve(&mut self, request: &Request) -> Result<Reply, Refusal> {
         let operation =
             Operation::from_number(request.operation).ok_or(Refusal::NoSuchOperation)?;
@@ -235,8 +187,6 @@ impl Desk {
             Operation::Commit => self.commit(request),
             Operation::Abort => self.abort(request),
             Operation::Ask => self.ask(request),
-            Operation::Save => self.save(request),
-            Operation::Return => self.return_to(request),
         }
     }
 
@@ -264,7 +214,6 @@ impl Desk {
         }
         self.check_unsignalled(me)?;
         self.check_standing(me, Standing::Active)?;
-        self.check_count(me)?;
         if let Some(holder) = self.holder(me, request) {
             return Ok(delayed_by(holder, request));
         }
@@ -275,7 +224,6 @@ impl Desk {
             (item.value, item.version)
         };
         self.places[me].cell_mut(number).read = true;
-        self.places[me].count();
         Ok(Reply { value, version, ..Reply::repeating(request) })
     }
 
@@ -294,12 +242,10 @@ impl Desk {
         if item.version == u32::MAX {
             return Err(Refusal::VersionsSpent);
         }
-        self.check_count(me)?;
         if let Some(holder) = self.holder(me, request) {
             return Ok(delayed_by(holder, request));
         }
         self.places[me].cell_mut(number).write = true;
-        self.places[me].count();
         self.items[number].pending = request.value;
         Ok(Reply::repeating(request))
     }
@@ -354,39 +300,6 @@ impl Desk {
             value: signalled.len() as u32,
             ..Reply::repeating(request)
         })
-    }
-
-    fn save(&mut self, request: &Request) -> Result<Reply, Refusal> {
-        let me = self.find(request.level, request.ticket)?;
-        self.check_unsignalled(me)?;
-        self.check_standing(me, Standing::Active)?;
-        if self.places[me].saves.len() >= MOST_LABELS {
-            return Err(Refusal::LabelsTaken);
-        }
-        Ok(Reply { value: self.keep(me), ..Reply::repeating(request) })
-    }
-
-    /// Keeps copies of what the transaction at place `me` has, and gives their label: the labels are
-    /// always the first ones, so the lowest free one is the next.
-    pub fn keep(&mut self, me: usize) -> u32 {
-        let written = self.places[me].written().into_iter();
-        let pending = written.map(|item| (item, self.items[item].pending)).collect();
-        let place = &mut self.places[me];
-        place.saves.push(Save { cells: place.cells.clone(), pending, counted: place.counted });
-        place.saves.len() as u32
-    }
-
-    /// It works when signalled: that is what it is for.
-    fn return_to(&mut self, request: &Request) -> Result<Reply, Refusal> {
-        let me = self.find(request.level, request.ticket)?;
-        self.check_standing(me, Standing::Active)?;
-        let save = self.places[me].save_at(request.value).cloned().ok_or(Refusal::NoLabel)?;
-        // What others have written is theirs.
-        for item in self.places[me].written() {
-            self.items[item].pending = save.pending.get(&item).copied().unwrap_or(0);
-        }
-        self.places[me].return_to(request.value, save);
-        Ok(Reply::repeating(request))
     }
 
     /// The signals of a done request of the transaction at place `me`, if its operation is the one
@@ -457,14 +370,6 @@ impl Desk {
             Ok(())
         } else {
             Err(Refusal::Signalled)
-        }
-    }
-
-    fn check_count(&self, me: usize) -> Result<(), Refusal> {
-        if self.places[me].counted < MOST_COUNTED {
-            Ok(())
-        } else {
-            Err(Refusal::CountFull)
         }
     }
 

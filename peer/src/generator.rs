@@ -2,9 +2,8 @@
 //! in the house as it stands: contended items, signals, full levels, old tickets.
 
 mod openings;
-mod steps;
 
-use crate::desk::{Desk, Item, Place, Standing, LEVELS, MOST_COUNTED, MOST_ITEMS};
+use crate::desk::{Cell, Desk, Item, Place, Standing, LEVELS, MOST_ITEMS};
 use crate::opening::Opening;
 use crate::order::{levels, Order};
 use crate::rng::Rng;
@@ -18,50 +17,40 @@ struct Mood {
     /// How many requests of a hundred are begins.
     begins: usize,
     /// How often a transaction at work asks for each operation, in the order of their numbers.
-    weights: [usize; 9],
+    weights: [usize; 7],
     /// How many of the items it may use are sought.
     items: usize,
     /// How many of the open transactions are at work.
     crowd: usize,
-    /// How many requests of a hundred are by whoever has worked longest since its first label.
-    longest: usize,
-    /// How many requests the stretch has at least.
-    least: usize,
 }
 
-const fn mood(begins: usize, weights: [usize; 9], items: usize, crowd: usize) -> Mood {
-    Mood { begins, weights, items, crowd, longest: 6, least: 10 }
-}
-
-const MOODS: [Mood; 7] = [
+const MOODS: [Mood; 6] = [
     // The places fill up.
-    mood(60, [0, 6, 4, 1, 1, 1, 1, 1, 1], 4, 32),
+    Mood { begins: 60, weights: [0, 6, 4, 1, 1, 1, 1], items: 4, crowd: 32 },
     // A class begins, and seeks the same few items.
-    mood(30, [0, 8, 8, 1, 1, 1, 1, 2, 1], 8, 8),
+    Mood { begins: 30, weights: [0, 8, 8, 1, 1, 1, 1], items: 8, crowd: 8 },
     // Readers spread over the house.
-    mood(8, [0, 16, 2, 2, 1, 1, 2, 2, 1], MOST_ITEMS, 12),
+    Mood { begins: 8, weights: [0, 16, 2, 2, 1, 1, 2], items: MOST_ITEMS, crowd: 12 },
     // Writers certify with few readers beside them, so that readers above are signalled.
-    mood(8, [0, 2, 8, 8, 1, 1, 1, 1, 1], 4, 8),
+    Mood { begins: 8, weights: [0, 2, 8, 8, 1, 1, 1], items: 4, crowd: 8 },
     // Work is brought to its end.
-    mood(8, [0, 2, 3, 10, 2, 2, 1, 1, 1], 8, 16),
+    Mood { begins: 8, weights: [0, 2, 3, 10, 2, 2, 1], items: 8, crowd: 16 },
     // The house empties.
-    mood(4, [0, 1, 1, 6, 1, 8, 1, 1, 1], 3, 32),
-    // A lesson is long: one transaction works on, so that its count gets full.
-    Mood { longest: 85, least: 50, ..mood(8, [0, 8, 4, 2, 1, 1, 1, 2, 1], MOST_ITEMS, 8) },
+    Mood { begins: 4, weights: [0, 1, 1, 6, 1, 8, 1], items: 3, crowd: 32 },
 ];
 
 /// A transaction that holds no lock yet mostly takes one.
-const WHEN_FRESH: [usize; 9] = [0, 10, 8, 1, 1, 1, 1, 2, 1];
+const WHEN_FRESH: [usize; 7] = [0, 10, 8, 1, 1, 1, 1];
 /// One whose certify others hold up tries it, and writes on, so that several items are in its way.
-const WHEN_HELD_UP: [usize; 9] = [0, 1, 4, 4, 0, 0, 0, 1, 1];
+const WHEN_HELD_UP: [usize; 7] = [0, 1, 4, 4, 0, 0, 0];
 /// A signalled one asks, tries the rest as well, and lingers, so that signals add up.
-const WHEN_SIGNALLED: [usize; 9] = [0, 2, 2, 2, 3, 1, 4, 1, 2];
-/// One that has a label to return to does so.
-const WHEN_OVERTAKEN: [usize; 9] = [0, 2, 1, 1, 3, 1, 2, 3, 5];
+const WHEN_SIGNALLED: [usize; 7] = [0, 2, 2, 2, 3, 1, 4];
 /// A certified one mostly commits, and now and then forgets that it is certified.
-const WHEN_CERTIFIED: [usize; 9] = [0, 1, 1, 1, 6, 1, 1, 2, 1];
-/// One whose count is full tries to go on, and returns or ends.
-const WHEN_FULL: [usize; 9] = [0, 8, 6, 4, 2, 0, 1, 2, 2];
+const WHEN_CERTIFIED: [usize; 7] = [0, 1, 1, 1, 5, 1, 1];
+
+/// Under rule B a signal takes a commit more than under A, and the moods alone give few. So one request
+/// in this many is a step towards one.
+const REQUESTS_PER_STEP_TO_SIGNAL: usize = 8;
 
 /// How many tickets of ended transactions may come back in late requests.
 const OLD_TICKETS_KEPT: usize = 40;
@@ -124,7 +113,7 @@ impl Generator {
 
     fn change_mood(&mut self) {
         self.mood = &MOODS[self.rng.below(MOODS.len())];
-        self.requests_left_in_mood = self.mood.least + self.rng.below(60);
+        self.requests_left_in_mood = 10 + self.rng.below(60);
         self.busy_level = self.level_with_items();
         self.crowd_start = self.rng.below(self.desk.places.len());
     }
@@ -151,8 +140,10 @@ impl Generator {
     }
 
     fn sensible_request(&mut self) -> Request {
-        if let Some(request) = self.step() {
-            return request;
+        if self.desk.rule == Rule::B && self.rng.one_in(REQUESTS_PER_STEP_TO_SIGNAL) {
+            if let Some(request) = self.step_to_signal() {
+                return request;
+            }
         }
         let begins = self.rng.below(100) < self.mood.begins;
         let Some(place) = self.place_at_work().filter(|_| !begins) else {
@@ -163,25 +154,47 @@ impl Generator {
             };
             return Request { operation: Operation::Begin.number(), level, ..Request::default() };
         };
-        let operation = self.operation_by(place, &self.mood.weights);
-        self.request_by(place, operation)
-    }
-
-    /// A request of this operation by the transaction at place `me`, with what it needs.
-    fn request_by(&mut self, me: usize, operation: Operation) -> Request {
-        let Place { level, ticket, .. } = self.desk.places[me];
+        let Place { level, ticket, .. } = self.desk.places[place];
+        let operation = self.next_operation(place);
         let mut request =
             Request { operation: operation.number(), level, ticket, ..Request::default() };
         if operation.uses_item() {
-            let held = self.held_item(me, operation);
-            request.item = held.unwrap_or_else(|| self.item_for(operation, level));
+            request.item = self.item_for(operation, level);
         }
-        request.value = match operation {
-            Operation::Write => self.value(),
-            Operation::Return => self.label_for(me),
-            _ => 0,
-        };
+        if operation.uses_value() {
+            request.value = self.value();
+        }
         request
+    }
+
+    /// The next of write, certify and commit by somebody at an item's level, where one above reads it.
+    fn step_to_signal(&mut self) -> Option<Request> {
+        let Desk { items, places, order, .. } = &self.desk;
+        let is_read_above = |item: &usize| {
+            let is_above = |place: &&Place| order.is_above(place.level, items[*item].level);
+            let mut above = places.iter().filter(is_above);
+            above.any(|place| place.cell(*item).read && !place.cell(*item).signalled)
+        };
+        let read: Vec<usize> = (0..items.len()).filter(is_read_above).collect();
+        let item = self.rng.pick(&read)?;
+        let level = items[item].level;
+        let at_level = places.iter().filter(|place| place.level == level && place.is_taken());
+        let names: Vec<(u32, Cell)> = at_level.map(|p| (p.ticket, p.cell(item))).collect();
+        let writer = names.iter().find(|(_, cell)| cell.write || cell.certify).copied();
+        let (ticket, cell) = writer.or_else(|| self.rng.pick(&names))?;
+        let operation = match cell {
+            Cell { certify: true, .. } => Operation::Commit,
+            // A commit that is refused signals nobody.
+            Cell { write: true, .. } if self.rng.one_in(3) => Operation::Commit,
+            Cell { write: true, .. } => Operation::Certify,
+            _ => Operation::Write,
+        };
+        let mut request =
+            Request { operation: operation.number(), level, ticket, ..Request::default() };
+        if operation == Operation::Write {
+            (request.item, request.value) = (item as u16, self.value());
+        }
+        Some(request)
     }
 
     /// The place of one of the crowd, if anybody is there.
@@ -192,32 +205,26 @@ impl Generator {
         open.get(index % open.len().max(1)).copied()
     }
 
-    /// What the transaction at place `me` asks for: by these weights where nothing else is the matter.
-    fn operation_by(&mut self, me: usize, weights: &[usize]) -> Operation {
+    fn next_operation(&mut self, me: usize) -> Operation {
         let place = &self.desk.places[me];
-        let is_signalled = !place.signalled().is_empty();
-        let weights = if is_signalled && place.saves.is_empty() {
+        let weights = if !place.signalled().is_empty() {
             &WHEN_SIGNALLED
-        } else if is_signalled && place.standing == Standing::Active {
-            &WHEN_OVERTAKEN
-        } else if place.counted == MOST_COUNTED {
-            &WHEN_FULL
         } else if place.standing == Standing::Certified {
             &WHEN_CERTIFIED
         } else if place.cells.is_empty() {
             &WHEN_FRESH
-        } else if self.is_held_up(me) && place.saves.is_empty() {
+        } else if self.is_held_up(me) {
             &WHEN_HELD_UP
         } else {
-            weights
+            &self.mood.weights
         };
-        let (level, labels) = (place.level, place.saves.len());
+        let level = place.level;
+        let operation = Operation::ALL[self.rng.weighted(weights)];
         let can_write = self.desk.items.iter().any(|item| item.level == level);
-        match Operation::ALL[self.rng.weighted(weights)] {
-            Operation::Write if !can_write => Operation::Read,
-            // Without a label there is nothing to return to, and most of it would be 19.
-            Operation::Return if labels == 0 && !self.rng.one_in(4) => Operation::Save,
-            operation => operation,
+        if operation == Operation::Write && !can_write {
+            Operation::Read
+        } else {
+            operation
         }
     }
 
@@ -254,20 +261,6 @@ impl Generator {
         self.rng.pick(&sought[..sought.len().min(self.mood.items)]).unwrap_or(any)
     }
 
-    /// Of a transaction whose count is full, an item that another holds against it, so that it shows
-    /// which check comes first.
-    fn held_item(&mut self, me: usize, operation: Operation) -> Option<u16> {
-        let Place { level, ticket, counted, .. } = self.desk.places[me];
-        if counted < MOST_COUNTED {
-            return None;
-        }
-        let operation = operation.number();
-        let asked = |item| Request { operation, level, item, ticket, value: 0 };
-        let items = 0..self.desk.items.len() as u16;
-        let is_held = |item: &u16| !self.desk.conflicts(me, &asked(*item)).is_empty();
-        self.rng.pick(&items.filter(is_held).collect::<Vec<u16>>())
-    }
-
     fn is_changing(&self, item: u16) -> bool {
         let mut cells = self.desk.places.iter().map(|place| place.cell(item.into()));
         cells.any(|cell| cell.write || cell.certify)
@@ -280,20 +273,6 @@ impl Generator {
             1 | 2 => u32::MAX,
             3..=10 => 1 + self.rng.below(100) as u32,
             _ => self.rng.next() as u32,
-        }
-    }
-
-    /// Mostly a label that the transaction has; also the one above these, 0, and such as only look
-    /// like one of them.
-    fn label_for(&mut self, me: usize) -> u32 {
-        let labels = self.desk.places[me].saves.len();
-        let live = 1 + self.rng.below(labels) as u32;
-        match self.rng.below(16) {
-            0 => 0,
-            1 => live + 256,
-            2 => self.rng.pick(&[5, u32::MAX, 1 << 31]).unwrap_or(5),
-            3 | 4 => labels as u32 + 1,
-            _ => live,
         }
     }
 
@@ -423,9 +402,9 @@ mod tests {
             assert_eq!(random_bytes(seed), random_bytes(seed));
         }
         assert_ne!(input(1, Rule::A, 100), input(2, Rule::A, 100));
-        assert_ne!(input(2, Rule::A, 500), input(2, Rule::B, 500));
+        assert_ne!(input(17, Rule::A, 500), input(17, Rule::B, 500));
         // Written down once, so that a changed generator is noticed.
-        assert_eq!(fingerprint(&input(17, Rule::A, 500)), 2551673162164923869);
+        assert_eq!(fingerprint(&input(17, Rule::A, 500)), 671922192592430017);
     }
 
     fn fingerprint(bytes: &[u8]) -> u64 {

@@ -204,17 +204,12 @@ fn words_for_untouched(case: &Case, byte: usize, theirs: Option<&u8>) -> String 
 /// One of the things that the cases have to meet.
 type Meets = fn(&Case, &Left) -> bool;
 
-const MEETS: [(&str, Meets); 15] = [
+const MEETS: [(&str, Meets); 14] = [
     ("a refusal and a done read behind it", |_, left| {
         has_then_done(left, |number| number > Refusal::Delayed.number())
     }),
     ("a delay and a done read behind it", |_, left| {
         has_then_done(left, |number| number == Refusal::Delayed.number())
-    }),
-    ("a done read, and one behind it that is too many to be counted", |_, left| {
-        let numbers = left.numbers();
-        let full = numbers.iter().position(|&number| number == Refusal::CountFull.number());
-        full.is_some_and(|full| numbers[..full].contains(&0))
     }),
     ("an item read, and read again", |case, left| {
         let items: Vec<&u16> = case.map.items.iter().take(left.count).collect();
@@ -274,8 +269,7 @@ struct Met {
     /// By the number of the opening.
     openings: [u64; OPENINGS.len()],
     tables: [u64; TABLE_LENGTHS.len()],
-    /// By the number of an item's reply; 17 is the largest that a read gets.
-    numbers: [u64; Refusal::CountFull as usize + 1],
+    numbers: [u64; 16],
     lengths: [u64; LENGTHS.len()],
     meets: [u64; MEETS.len()],
 }

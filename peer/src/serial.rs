@@ -1,6 +1,5 @@
 //! Demand 3 by brute force: committed transactions, run alone in the order of their commits on a
-//! plain table, read what the desk answered and leave what the desk holds. What was returned over
-//! (CR 8) is not run.
+//! plain table, read what the desk answered and leave what the desk holds.
 
 use crate::desk::Desk;
 use crate::generator::{rule_of, Generator};
@@ -17,7 +16,6 @@ use std::io::Write;
 type Pair = (u32, u32);
 
 /// A done read with its answer, or a done write.
-#[derive(Clone, Copy)]
 enum Deed {
     Read { item: usize, answered: Pair },
     Write { item: usize, value: u32 },
@@ -69,56 +67,18 @@ impl Table {
     }
 }
 
-/// What a transaction has done so far and not returned over, and for each label the same at the last
-/// save that was answered it.
-#[derive(Default)]
-struct Work {
-    deeds: Vec<Deed>,
-    saved: HashMap<u32, Vec<Deed>>,
-    returned_over: u64,
-}
-
-impl Work {
-    fn save(&mut self, label: u32) {
-        self.saved.insert(label, self.deeds.clone());
-    }
-
-    fn return_to(&mut self, label: u32) -> Result<(), String> {
-        let saved = self.saved.get(&label);
-        let saved = saved.ok_or_else(|| format!("no save was answered label {label}"))?;
-        self.returned_over += self.deeds.len().saturating_sub(saved.len()) as u64;
-        self.deeds.clone_from(saved);
-        Ok(())
-    }
-}
-
-/// What committed transactions had, of all that were watched.
-#[derive(Clone, Copy, Default)]
-struct Counts {
-    commits: u64,
-    reads: u64,
-    returned_over: u64,
-}
-
-impl Counts {
-    fn add(&mut self, more: Counts) {
-        self.commits += more.commits;
-        self.reads += more.reads;
-        self.returned_over += more.returned_over;
-    }
-}
-
-/// The work of the open transactions, by level and ticket.
+/// What the open transactions have done so far, by level and ticket.
 struct Watch {
     table: Table,
-    open: HashMap<(u8, u32), Work>,
-    counts: Counts,
+    open: HashMap<(u8, u32), Vec<Deed>>,
+    commits: u64,
+    reads: u64,
 }
 
 impl Watch {
     fn new(desk: &Desk) -> Watch {
         let table = Table(vec![(0, 0); desk.items.len()]);
-        Watch { table, open: HashMap::new(), counts: Counts::default() }
+        Watch { table, open: HashMap::new(), commits: 0, reads: 0 }
     }
 
     /// Notes one request and its reply; `desk` is the house after it.
@@ -129,43 +89,44 @@ impl Watch {
         let name = (request.level, request.ticket);
         let item = usize::from(request.item);
         match Operation::from_number(request.operation) {
+            Some(Operation::Begin) => {
+                self.open.insert((request.level, reply.ticket), Vec::new());
+            }
             Some(Operation::Read) => {
                 let answered = (reply.value, reply.version);
-                self.work(name).deeds.push(Deed::Read { item, answered });
+                self.open.entry(name).or_default().push(Deed::Read { item, answered });
             }
             Some(Operation::Write) => {
                 let value = request.value;
-                self.work(name).deeds.push(Deed::Write { item, value });
+                self.open.entry(name).or_default().push(Deed::Write { item, value });
             }
-            Some(Operation::Save) => self.work(name).save(reply.value),
-            Some(Operation::Return) => return self.work(name).return_to(request.value),
             Some(Operation::Abort) => {
                 self.open.remove(&name);
             }
             Some(Operation::Commit) => return self.commit(name, desk),
-            Some(Operation::Begin | Operation::Certify | Operation::Ask) | None => {}
+            Some(Operation::Certify | Operation::Ask) | None => {}
         }
         Ok(())
     }
 
-    fn work(&mut self, name: (u8, u32)) -> &mut Work {
-        self.open.entry(name).or_default()
-    }
-
     fn commit(&mut self, name: (u8, u32), desk: &Desk) -> Result<(), String> {
-        let Work { deeds, returned_over, .. } = self.open.remove(&name).unwrap_or_default();
-        let reads = deeds.iter().filter(|deed| matches!(deed, Deed::Read { .. })).count() as u64;
-        self.counts.add(Counts { commits: 1, reads, returned_over });
+        let deeds = self.open.remove(&name).unwrap_or_default();
+        self.commits += 1;
+        self.reads += deeds.iter().filter(|deed| matches!(deed, Deed::Read { .. })).count() as u64;
         let checked = self.table.run_alone(&deeds).and_then(|()| self.table.check_against(desk));
         checked.map_err(|what| {
             let (level, ticket) = name;
-            format!("commit {} (level {level} #{ticket}): {what}", self.counts.commits)
+            format!("commit {} (level {level} #{ticket}): {what}", self.commits)
         })
     }
 }
 
-/// One random run, and what its committed transactions had.
-fn check_run(mut generator: Generator, requests: usize, answer: Answer) -> Result<Counts, String> {
+/// One random run: how many transactions were committed, and how many reads they had.
+fn check_run(
+    mut generator: Generator,
+    requests: usize,
+    answer: Answer,
+) -> Result<(u64, u64), String> {
     let mut desk = generator.desk().clone();
     let mut watch = Watch::new(&desk);
     for index in 1..=requests {
@@ -174,28 +135,29 @@ fn check_run(mut generator: Generator, requests: usize, answer: Answer) -> Resul
         watch.note(&request, &reply, &desk).map_err(|what| format!("request {index}: {what}"))?;
     }
     watch.table.check_against(&desk).map_err(|what| format!("at its end: {what}"))?;
-    Ok(watch.counts)
+    Ok((watch.commits, watch.reads))
 }
 
 pub fn serial(seeds: u64, requests: usize, out: &mut impl Write) -> Result<(), Stop> {
-    let mut counts = Counts::default();
+    let (mut commits, mut reads) = (0, 0);
     let (mut orders, mut under_b) = (Vec::<Order>::new(), 0);
     each_seed("checked", 0, seeds, |seed| {
         let rule = rule_of(seed);
         let generator = Generator::new(seed, rule);
         let order = generator.desk().order;
-        let checked = check_run(generator, requests, Desk::answer);
-        counts.add(checked.map_err(|what| Stop::Found(format!("run {seed}, {what}")))?);
+        let (more_commits, more_reads) = check_run(generator, requests, Desk::answer)
+            .map_err(|what| Stop::Found(format!("run {seed}, {what}")))?;
+        commits += more_commits;
+        reads += more_reads;
         under_b += u64::from(rule == Rule::B);
         orders.extend((!orders.contains(&order)).then_some(order));
         Ok(())
     })?;
-    let Counts { commits, reads, returned_over } = counts;
     writeln!(
         out,
         "checked {seeds} runs of {requests} requests, {under_b} of them under rule B, with {} orders \
          of levels: {commits} committed transactions, with {reads} reads, are as if run alone in the \
-         order of their commits, without the {returned_over} reads and writes that they returned over",
+         order of their commits",
         orders.len()
     )?;
     Ok(())
@@ -210,8 +172,8 @@ mod tests {
     fn the_desk_is_serial() {
         for (seed, rule) in (0..40).flat_map(|seed| Rule::ALL.map(|rule| (seed, rule))) {
             let generator = Generator::new(seed, rule);
-            let counts = check_run(generator, 400, Desk::answer).expect("serial");
-            assert!(counts.commits > 0, "run {seed} under rule {rule} commits nothing");
+            let (commits, _) = check_run(generator, 400, Desk::answer).expect("serial");
+            assert!(commits > 0, "run {seed} under rule {rule} commits nothing");
         }
     }
 
@@ -228,18 +190,5 @@ mod tests {
         let late = "lets a certified transaction commit after it was signalled";
         assert_eq!(broken_by(late), Rule::ALL);
         assert_eq!(broken_by("gives no signal under rule B"), [Rule::B]);
-    }
-
-    #[test]
-    fn returns_that_undo_too_little_or_too_much_are_noticed() {
-        for name in [
-            "keeps a write lock where it returns",
-            "clears the signal of a lock that a return keeps",
-            "leaves the values that were written since the save",
-            "drops the values that were written before the save",
-            "gives the values of other transactions back too",
-        ] {
-            assert_eq!(broken_by(name), Rule::ALL, "{name}");
-        }
     }
 }

@@ -4,11 +4,7 @@
 //!
 //! Of the slips that CR 7 invites no reply shows these, so they are not listed: to signal others
 //! that are not above (nobody else of the level reads what is certified), to signal again at commit under
-//! rule A, and to keep the rule in a house whose opening is refused (it has no items). Nor of those
-//! that CR 8 invites: to check 17 before 10, which no run reaches, and to leave the pending value of an
-//! item whose write lock a return releases (whoever reads a pending value has written it).
-
-mod savepoints;
+//! rule A, and to keep the rule in a house whose opening is refused (it has no items).
 
 use crate::desk::{
     delayed_by, Cell, Desk, Item, Place, Refusal, Standing, LEVELS, PLACES_PER_LEVEL,
@@ -18,10 +14,9 @@ use crate::order::{entry, flaws, levels, Flaw, Order, Table};
 use crate::rule::Rule;
 use crate::run::{self, open_with, Answer, Conduct, Open};
 use crate::wire::{Operation, Reply, Request};
-use savepoints::*;
 use std::cmp::Reverse;
 
-pub const SLIPS: [(&str, Conduct); 75] = [
+pub const SLIPS: [(&str, Conduct); 43] = [
     ("tells the certifier how many readers were signalled", answers(tells_count)),
     ("delays a certify for a reader above", answers(delays_for_reader_above)),
     ("counts a transaction's own read lock against its certify", answers(counts_own_read)),
@@ -86,41 +81,6 @@ pub const SLIPS: [(&str, Conduct); 75] = [
     ("delays a commit under rule B for a reader above", answers(delays_commit_for_reader)),
     ("compares levels by number where a commit signals", answers(commit_signals_by_number)),
     ("reads again what is certified below, under rule B", answers(reads_again)),
-    ("keeps a read lock where it returns", answers(keeps_read_lock)),
-    ("keeps a write lock where it returns", answers(keeps_write_lock)),
-    ("keeps the signal of a lock that a return releases", answers(keeps_signal)),
-    ("clears the signal of a lock that a return keeps", answers(clears_signal)),
-    ("releases both locks of an item where one is newer", answers(releases_both_locks)),
-    ("keeps both locks of an item where one is older", answers(keeps_both_locks)),
-    ("leaves the values that were written since the save", answers(leaves_values)),
-    ("drops the values that were written before the save", answers(drops_values)),
-    (
-        "gives the values of the last save back, whatever the label",
-        answers(gives_values_of_last_save),
-    ),
-    ("gives the values of other transactions back too", answers(gives_all_values)),
-    ("does not give the count back", answers(forgets_count)),
-    ("keeps the later labels where it returns", answers(keeps_later_labels)),
-    ("frees the label that it returns to", answers(frees_label)),
-    ("returns to the label after the one it is told", answers(returns_to_next_label)),
-    ("does not know label 4", answers(knows_three_labels)),
-    ("grants a fifth save", answers(saves_fifth)),
-    ("leaves the labels of one that is over to the next at its place", answers(leaves_labels)),
-    ("tells the label back where it returns", answers(tells_label_back)),
-    ("counts from the begin on", answers(counts_from_begin)),
-    ("counts refused and delayed requests too", answers(counts_refused)),
-    ("counts saves too", answers(counts_saves)),
-    ("never counts", answers(never_counts)),
-    ("counts to 31", answers(counts_to_31)),
-    ("counts to 33", answers(counts_to_33)),
-    ("tells of a full count only where nobody holds the item", answers(tells_count_late)),
-    ("tells of a full count before it looks at the time", answers(tells_count_early)),
-    ("tells of a fifth save before it looks at the time", answers(tells_18_before_9)),
-    ("tells of a fifth save before it looks for signals", answers(tells_18_before_2)),
-    ("tells of a label that is none before it looks at the time", answers(tells_19_before_9)),
-    ("does not let a signalled transaction return", answers(refuses_return_when_signalled)),
-    ("lets a signalled transaction save", answers(saves_when_signalled)),
-    ("lets a certified transaction return", answers(returns_when_certified)),
 ];
 
 /// A desk that opens by the rules and answers so.

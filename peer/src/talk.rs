@@ -52,9 +52,7 @@ one line each:
   certify 0 #1             then  commit 0 #1
   abort 0 #1
   ask 2 #1                 which items are signalled
-  save 2 #1                its label comes back, 1 to 4
-  return 2 #1 to 1         what was locked and written since that label's save is undone
-  raw 09 00 00 00 01 00 00 00 00 00 00 00     any 12 bytes, in hex
+  raw 07 00 00 00 01 00 00 00 00 00 00 00     any 12 bytes, in hex
   show                     the lock table
   help, quit
 ";
@@ -442,7 +440,7 @@ fn parse_raw(words: &str) -> Result<Request, String> {
     };
     let bytes: Option<Vec<u8>> = words.split_whitespace().map(byte).collect();
     let request = bytes.and_then(|bytes| <[u8; REQUEST_BYTES]>::try_from(bytes).ok());
-    let wanted = "raw needs 12 bytes in hex, such as 09 00 00 00 01 00 00 00 00 00 00 00";
+    let wanted = "raw needs 12 bytes in hex, such as 07 00 00 00 01 00 00 00 00 00 00 00";
     request.map(|bytes| Request::from_bytes(&bytes)).ok_or_else(|| wanted.to_string())
 }
 
@@ -501,26 +499,6 @@ mod tests {
         let text = played("map 1 #1\nmap 1 items 0\nmap 1 #1 items x\n");
         for wanted in ["map needs more", "read needs more", "'x' is not an item"] {
             assert!(text.contains(wanted), "{text}");
-        }
-    }
-
-    #[test]
-    fn saves_and_returns_are_told() {
-        let text = transcript(
-            "open 0\nbegin 0\nwrite 0 #1 item 0 = 7\nsave 0 #1\nwrite 0 #1 item 0 = 8\nshow\n\
-             return 0 #1 to 1\nread 0 #1 item 0\nreturn 0 #1 to 2\nreturn 0 #1\n",
-        );
-        for wanted in [
-            "07 00 00 00 01 00 00 00 00 00 00 00              level 0 #1 saves\n",
-            "00 07 00 00 01 00 00 00 01 00 00 00 00 00 00 00  done: label 1\n",
-            "\n0#1: labels 1 to 1, 1 reads and writes counted\n",
-            "08 00 00 00 01 00 00 00 01 00 00 00              level 0 #1 returns to label 1\n",
-            "00 08 00 00 01 00 00 00 00 00 00 00 00 00 00 00  done\n",
-            "done: value 7, version 1\n",
-            "19, refused: the transaction has no such label\n",
-            "return needs more; say 'return 0 #1 to 1'\n",
-        ] {
-            assert!(text.contains(wanted), "{wanted}: {text}");
         }
     }
 

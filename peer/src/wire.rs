@@ -3,7 +3,7 @@
 pub const REQUEST_BYTES: usize = 12;
 pub const REPLY_BYTES: usize = 16;
 
-/// The nine operations, in the order of their numbers.
+/// The seven operations, in the order of their numbers.
 #[derive(Clone, Copy, Debug, PartialEq, Eq)]
 pub enum Operation {
     Begin,
@@ -13,12 +13,10 @@ pub enum Operation {
     Commit,
     Abort,
     Ask,
-    Save,
-    Return,
 }
 
 impl Operation {
-    pub const ALL: [Operation; 9] = [
+    pub const ALL: [Operation; 7] = [
         Operation::Begin,
         Operation::Read,
         Operation::Write,
@@ -26,8 +24,6 @@ impl Operation {
         Operation::Commit,
         Operation::Abort,
         Operation::Ask,
-        Operation::Save,
-        Operation::Return,
     ];
 
     pub fn from_number(number: u8) -> Option<Operation> {
@@ -47,8 +43,6 @@ impl Operation {
             Operation::Commit => "commit",
             Operation::Abort => "abort",
             Operation::Ask => "ask",
-            Operation::Save => "save",
-            Operation::Return => "return",
         }
     }
 
@@ -61,7 +55,7 @@ impl Operation {
     }
 
     pub fn uses_value(self) -> bool {
-        matches!(self, Operation::Write | Operation::Return)
+        self == Operation::Write
     }
 }
 
@@ -206,6 +200,6 @@ mod tests {
             assert_eq!(operation.number(), number);
             assert_eq!(Operation::from_number(number), Some(operation));
         }
-        assert_eq!(Operation::from_number(9), None);
+        assert_eq!(Operation::from_number(7), None);
     }
 }

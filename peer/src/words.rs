@@ -21,8 +21,6 @@ pub fn request(request: &Request) -> String {
         Operation::Commit => format!("level {level} #{ticket} commits"),
         Operation::Abort => format!("level {level} #{ticket} aborts"),
         Operation::Ask => format!("level {level} #{ticket} asks for its signals"),
-        Operation::Save => format!("level {level} #{ticket} saves"),
-        Operation::Return => format!("level {level} #{ticket} returns to label {value}"),
     };
     let unused = [
         ("item", u32::from(item), known.uses_item()),
@@ -46,7 +44,6 @@ pub fn reply(reply: &Reply) -> String {
         (0, Some(Operation::Ask)) => {
             format!("done: {} signalled, the lowest is item {}", reply.value, reply.item)
         }
-        (0, Some(Operation::Save)) => format!("done: label {}", reply.value),
         (0, _) => "done".to_string(),
         (1, operation) => {
             let (ticket, level, lock) = (reply.value, reply.version, lock_in_the_way(operation));
@@ -83,7 +80,7 @@ fn reason(number: u8, operation: Option<Operation>) -> &'static str {
         (2, _) => {
             "the transaction is signalled: an item it read is changing below it, or has changed"
         }
-        (3, _) => "operation above 8",
+        (3, _) => "operation above 6",
         (4, _) => "level above 3",
         (5, _) => "an unused field is not zero",
         (6, _) => "no open transaction at that level has that ticket",
@@ -99,9 +96,6 @@ fn reason(number: u8, operation: Option<Operation>) -> &'static str {
         (14, _) => "opening: a level byte above 3",
         (15, _) => "write of a blank sheet: the value is 0",
         (16, _) => "opening: the table is no order",
-        (17, _) => "32 reads and writes since the first label are counted already",
-        (18, _) => "all four labels are taken",
-        (19, _) => "the transaction has no such label",
         (28, _) => "opening: the rule is neither 0 (A) nor 1 (B)",
         _ => "a number that the table does not have",
     }
@@ -174,10 +168,6 @@ pub fn lock_table(desk: &Desk) -> String {
         text.truncate(text.trim_end().len());
     }
     text.push_str("\nmarks: r read, w write, c certify, s signalled; 0#1* is certified\n");
-    for (place, name) in open.iter().zip(&names).filter(|(place, _)| !place.saves.is_empty()) {
-        let (labels, counted) = (place.saves.len(), place.counted);
-        let _ = writeln!(text, "{name}: labels 1 to {labels}, {counted} reads and writes counted");
-    }
     for (level, next) in desk.next_ticket.iter().enumerate() {
         let taken = open.iter().filter(|place| usize::from(place.level) == level).count();
         let next = next.map_or("none left".to_string(), |ticket| format!("#{ticket}"));
@@ -202,8 +192,7 @@ fn marks(cell: Cell) -> String {
     }
 }
 
-/// Reads a request in words: `OPERATION LEVEL [#TICKET] [item ITEM] [= VALUE]`, where the value of a
-/// return may be told as `to LABEL`.
+/// Reads a request in words: `OPERATION LEVEL [#TICKET] [item ITEM] [= VALUE]`.
 /// Fields that the operation uses must be named; the others may be, and are 0 otherwise.
 pub fn parse_request(line: &str) -> Result<Request, String> {
     let line = line.replace('=', " = ").to_lowercase();
@@ -219,9 +208,6 @@ pub fn parse_request(line: &str) -> Result<Request, String> {
         match word {
             "item" => item = Some(number(words.next(), "an item", u16::MAX.into())? as u16),
             "=" => value = Some(number(words.next(), "a value", u32::MAX)?),
-            "to" if operation == Operation::Return => {
-                value = Some(number(words.next(), "a label", u32::MAX)?);
-            }
             _ => match word.strip_prefix('#') {
                 Some(digits) => ticket = Some(number(Some(digits), "a ticket", u32::MAX)?),
                 None => return Err(format!("'{word}' does not fit; say {}", example(operation))),
@@ -249,7 +235,6 @@ fn example(operation: Operation) -> String {
         Operation::Begin => format!("'{name} 0'"),
         Operation::Read => format!("'{name} 0 #1 item 0'"),
         Operation::Write => format!("'{name} 0 #1 item 0 = 7'"),
-        Operation::Return => format!("'{name} 0 #1 to 1'"),
         _ => format!("'{name} 0 #1'"),
     }
 }
@@ -274,14 +259,6 @@ mod tests {
         assert_eq!(parse_request("begin 9"), Ok(Request { level: 9, ..Request::default() }));
         let ask = Request { operation: 6, level: 2, ticket: 1, value: 5, ..Request::default() };
         assert_eq!(parse_request("ask 2 #1 = 5"), Ok(ask));
-        let back = Request { operation: 8, level: 2, ticket: 1, value: 4, ..Request::default() };
-        assert_eq!(parse_request("return 2 #1 to 4"), Ok(back));
-        assert_eq!(parse_request("return 2 #1 = 4"), Ok(back));
-        assert_eq!(request(&back), "level 2 #1 returns to label 4");
-        let save = Request { operation: 7, value: 0, ..back };
-        assert_eq!(parse_request("save 2 #1"), Ok(save));
-        assert_eq!(request(&save), "level 2 #1 saves");
-        assert_eq!(reply(&Reply { value: 3, ..Reply::repeating(&save) }), "done: label 3");
     }
 
     #[test]
@@ -293,9 +270,6 @@ mod tests {
             ("read 0 #1", "needs more"),
             ("read 0 #1 item", "an item is missing"),
             ("write 0 #1 item 0", "needs more"),
-            ("return 0 #1", "needs more; say 'return 0 #1 to 1'"),
-            ("return 0 #1 to", "a label is missing"),
-            ("save 0 #1 to 1", "does not fit"),
             ("commit 0 #x", "not a ticket"),
             ("commit 0 1", "does not fit"),
             ("write 0 #1 item 0 = 4294967296", "not a value"),
@@ -329,7 +303,7 @@ mod tests {
             for operation in 0..=255 {
                 let words = reply(&Reply { number, operation, ..Reply::default() });
                 let known = !words.contains("does not have");
-                assert_eq!(known, number <= 19 || number == 28, "{words}");
+                assert_eq!(known, number <= 16 || number == 28, "{words}");
             }
         }
     }

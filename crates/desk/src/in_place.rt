@@ -8,13 +8,11 @@ use crate::Served;
 use crate::bytes::{least, put_reply, request_at};
 use house::{Answer, House, Mark};
 use judge::judge;
-use labels::{forget, save};
-use marks::has_claimed;
-use parts::{active, certified, counted, delayed_by, gives_at, left_free, next_ticket, reply_to};
-use returns::return_to;
+use parts::{active, certified, delayed_by, gives_at, left_free, next_ticket, reply_to};
 use ruling::{Change, Ruling, View};
-use signals::signal_readers;
-use sweeps::{clear_cells, commit_items, convert_cells, drop_pending, lock_cell, mark_cell};
+use sweeps::{
+    clear_cells, commit_items, convert_cells, drop_pending, has_claimed, mark_cell, signal_readers,
+};
 
 // Only what is granted changes the house.
 fn change_of(ruling: Ruling) -> Change
@@ -79,18 +77,10 @@ pub fn turn_in_place(h: House, requests: &[u8], replies: &mut [u8], most: usize)
                 h.places[me] = taken;
                 h.next[l] = next_ticket(t);
             }
-            Change::Read(me, i) => {
-                let reader = h.places[me];
-                lock_cell(&mut h.cells, reader.labels, me, i);
-                let read = counted(reader);
-                h.places[me] = read;
-            }
+            Change::Read(me, i) => mark_cell(&mut h.cells, Mark::Read, me, i),
             Change::Write(me, i, value) => {
                 mark_cell(&mut h.cells, Mark::Write, me, i);
                 h.pending[i] = value;
-                let writer = h.places[me];
-                let wrote = counted(writer);
-                h.places[me] = wrote;
             }
             Change::Certify(me) => {
                 let gives = gives_at(h.rule, 3);
@@ -102,10 +92,6 @@ pub fn turn_in_place(h: House, requests: &[u8], replies: &mut [u8], most: usize)
                 h.places[me] = seat;
             }
             Change::End(me, commits) => {
-                let leaver = h.places[me];
-                if 0 < leaver.labels {
-                    h = forget(h, me, 0);
-                }
                 let claimed = has_claimed(&h.cells, me);
                 if claimed & commits {
                     let items = h.items;
@@ -124,8 +110,6 @@ pub fn turn_in_place(h: House, requests: &[u8], replies: &mut [u8], most: usize)
                 let left = left_free();
                 h.places[me] = left;
             }
-            Change::Save(me, n) => h = save(h, me, n),
-            Change::Return(me, n) => h = return_to(h, me, n),
         }
     }
     Served { house: h, count }

@@ -1,9 +1,9 @@
 -- Document 01's marked examples, M1 to M12, as one table under one statement.
 -- "Items 0 and 1 at level 0, item 2 at level 2. Each starts fresh, with level-0 tickets 1 and 2 and level-2 ticket 1 open
 -- unless said." The levels are in the order of "the old chain", and the rule is A. M11 and M12 are rule A's; beside them stand their
--- companions under rule B (CR 7), and after them examples of savepoints (CR 8), the teacher's story first.
+-- companions under rule B (CR 7).
 -- Assumes nothing.
-use Rattle.std.specs.Prelude.{ℕ, ◌≡◌, List, [], ◌∷◌, ◌++◌, map, replicate}
+use Rattle.std.specs.Prelude.{ℕ, ◌≡◌, List, [], ◌∷◌, ◌++◌, map}
 use Rattle.house.specs.declared.Place.{Place}
 use Rattle.house.specs.declared.Reply.{Reply}
 use Rattle.house.specs.declared.Request.{Request}
@@ -12,7 +12,7 @@ use Rattle.house.specs.declared.Rule.TheVariants.{A, B}
 use Rattle.house.specs.declared.Standing.TheVariants.{Active}
 use Rattle.house.specs.Order.{old_chain}
 use Rattle.house.specs.Run.{Event}
-use Rattle.examples.specs.Words.{begins, begun, reads, writes, certifies, commits, aborts, asks, saves, returns, reads_with, says, Example, talk, given, expected}
+use Rattle.examples.specs.Words.{begins, begun, reads, writes, certifies, commits, aborts, asks, reads_with, says, Example, talk, given, expected}
 
 -- a row of the table under a rule, which also says which places the house then shows; under A; and where it says none
 abbrev under : Rule → List Event → Request → Reply → List (ℕ × Place) → Example
@@ -28,7 +28,7 @@ abbrev row_b : List Event → Request → Reply → Example
 row_b before request reply = under B before request reply []
 
 abbrev active : ℕ → ℕ → ℕ × Place
-active p t = (p, record { standing = Active; labels = 0; count = 0; ticket = t })
+active p t = (p, record { standing = Active; ticket = t })
 
 -- what is open unless said
 abbrev usual : List Event
@@ -130,56 +130,9 @@ b11_between = row_b (talk b11_certify ++ (certifies 2 1, says 0 3 0 1 0 0) ∷ (
 abbrev b12 : Example
 b12 = row_b (talk b11_certify ++ (aborts 0 1, says 0 5 0 1 0 0) ∷ (asks 2 1, says 0 6 0 1 0 0) ∷ []) (certifies 2 1) (says 0 3 0 1 0 0)
 
--- CR 8, the teacher's story: level 2 reads item 1 and saves, reads item 0 too and is overtaken there by level 0. What it asks gets 2.
--- It returns, and is signalled no more; it need not mark the whole sheet again
-abbrev overtaken : Example
-overtaken =
-    row (usual ++ (reads 2 1 1, says 0 1 1 1 0 0) ∷ (saves 2 1, says 0 7 0 1 1 0) ∷ (reads 2 1 0, says 0 1 0 1 0 0) ∷ (writes 0 1 0 7, says 0 2 0 1 0 0) ∷ (certifies 0 1, says 0 3 0 1 0 0) ∷ [])
-    (saves 2 1) (says 2 7 0 1 0 0)
-
-abbrev returned : Example
-returned = row (talk overtaken ++ (returns 2 1 1, says 0 8 0 1 0 0) ∷ []) (asks 2 1) (says 0 6 0 1 0 0)
-
--- the new reading waits for level 0's commit; then it certifies and commits, and its mark is read with version 1
-abbrev again : Example
-again = row (talk returned ++ (reads 2 1 0, says 1 1 0 1 1 0) ∷ (commits 0 1, says 0 4 0 1 0 0) ∷ []) (reads 2 1 0) (says 0 1 0 1 7 1)
-
-abbrev story : Example
-story =
-    row (talk again ++ (writes 2 1 2 9, says 0 2 2 1 0 0) ∷ (certifies 2 1, says 0 3 0 1 0 0) ∷ (commits 2 1, says 0 4 0 1 0 0) ∷ begun 2 2 ∷ [])
-    (reads 2 2 2) (says 0 1 2 2 9 1)
-
--- a kept lock keeps its signal: returned to after item 0 was read, label 1 leaves level 2 at 2
-abbrev kept : Example
-kept =
-    row (usual ++ (reads 2 1 0, says 0 1 0 1 0 0) ∷ (saves 2 1, says 0 7 0 1 1 0) ∷ (writes 0 1 0 7, says 0 2 0 1 0 0) ∷ (certifies 0 1, says 0 3 0 1 0 0) ∷ (returns 2 1 1, says 0 8 0 1 0 0) ∷ [])
-    (certifies 2 1) (says 2 3 0 1 0 0)
-
--- what was pending at the label is pending again, and what was first written since is released: ticket 2 may write it
-abbrev draft : Example
-draft =
-    row (usual ++ (writes 0 1 0 7, says 0 2 0 1 0 0) ∷ (saves 0 1, says 0 7 0 1 1 0) ∷ (writes 0 1 0 8, says 0 2 0 1 0 0) ∷ (writes 0 1 1 9, says 0 2 1 1 0 0) ∷ (returns 0 1 1, says 0 8 0 1 0 0) ∷ (writes 0 2 1 5, says 0 2 1 2 0 0) ∷ [])
-    (reads 0 1 0) (says 0 1 0 1 7 1)
-
--- four labels and no fifth; to return to the second forgets the later two, and the third is given anew
-abbrev labels : Example
-labels =
-    row (usual ++ (saves 0 1, says 0 7 0 1 1 0) ∷ (saves 0 1, says 0 7 0 1 2 0) ∷ (saves 0 1, says 0 7 0 1 3 0) ∷ (saves 0 1, says 0 7 0 1 4 0) ∷ (saves 0 1, says 18 7 0 1 0 0) ∷ (returns 0 1 5, says 19 8 0 1 0 0) ∷ (returns 0 1 2, says 0 8 0 1 0 0) ∷ (returns 0 1 3, says 19 8 0 1 0 0) ∷ (returns 0 1 0, says 19 8 0 1 0 0) ∷ [])
-    (saves 0 1) (says 0 7 0 1 3 0)
-
--- from the first label on 32 reads and writes are done, and the next gets 17; to return restores the count
-abbrev spent : Example
-spent =
-    row (usual ++ (reads 0 1 0, says 0 1 0 1 0 0) ∷ (saves 0 1, says 0 7 0 1 1 0) ∷ replicate 32 (reads 0 1 0, says 0 1 0 1 0 0) ++ (reads 0 1 0, says 17 1 0 1 0 0) ∷ (returns 0 1 1, says 0 8 0 1 0 0) ∷ [])
-    (reads 0 1 0) (says 0 1 0 1 0 0)
-
--- once certified there is no save and no return
-abbrev late : Example
-late = row (usual ++ (saves 0 1, says 0 7 0 1 1 0) ∷ (certifies 0 1, says 0 3 0 1 0 0) ∷ (saves 0 1, says 9 7 0 1 0 0) ∷ []) (returns 0 1 1) (says 9 8 0 1 0 0)
-
 -- every reply on the way of a row is held to the rules with it, so each example stands here once, with its last row
 unfoldable pub table : List Example
-table = m1 ∷ m2 ∷ m3 ∷ m4 ∷ m5 ∷ m6_eighth ∷ m6_ninth ∷ m6 ∷ m7 ∷ m8 ∷ m9 ∷ m10 ∷ m11 ∷ m12 ∷ b11 ∷ b11_between ∷ b12 ∷ story ∷ kept ∷ draft ∷ labels ∷ spent ∷ late ∷ []
+table = m1 ∷ m2 ∷ m3 ∷ m4 ∷ m5 ∷ m6_eighth ∷ m6_ninth ∷ m6 ∷ m7 ∷ m8 ∷ m9 ∷ m10 ∷ m11 ∷ m12 ∷ b11 ∷ b11_between ∷ b12 ∷ []
 
 -- what the desk gives is what the documents say, in every row
 unfoldable pub Marked : Type 0

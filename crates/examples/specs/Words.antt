@@ -6,7 +6,7 @@ use Rattle.house.specs.declared.Reply.{Reply}
 use Rattle.house.specs.declared.Request.{Request}
 use Rattle.house.specs.declared.Rule.{Rule}
 use Rattle.house.specs.House.{place_at}
-use Rattle.house.specs.Rules.{begin, read, write, certify, commit, abort, ask, save, back}
+use Rattle.house.specs.Rules.{begin, read, write, certify, commit, abort, ask}
 use Rattle.house.specs.Opening.{opening}
 use Rattle.house.specs.Run.{Event, finally, replies}
 
@@ -35,12 +35,6 @@ aborts l t = request abort l 0 t 0
 
 abbrev pub asks : ℕ → ℕ → Request
 asks l t = request ask l 0 t 0
-
-abbrev pub saves : ℕ → ℕ → Request
-saves l t = request save l 0 t 0
-
-abbrev pub returns : ℕ → ℕ → ℕ → Request
-returns l t n = request back l 0 t n
 
 -- a read that carries a value
 abbrev pub reads_with : ℕ → ℕ → ℕ → ℕ → Request

@@ -7,13 +7,13 @@ use mathlib.Core.Path.{◌≡◌, refl, sym, ap, ap₂, ◌∙◌}
 use mathlib.Core.Logic.{◌≢◌, inl, inr}
 use mathlib.Core.Bool.{Bool, true, false, ◌&&◌, ◌||◌, not}
 use mathlib.Core.List.{List}
-use lib.ListN.{length, get_or, set, length-set}
+use lib.ListN.{length, get_or, length-set}
 use lib.Seq.{get_or-set_same, get_or-set_other, ext_get_or}
 use lib.Dec.{eqb}
 use borrow.Author.Tests.{eqb-true, eqb-false, eq-eqb, ne_eqb}
 use Rattle.house.specs.declared.Mark.{Mark}
 use Rattle.house.specs.declared.Mark.TheVariants.{Read, Write, Certify, Signalled}
-use Rattle.house.specs.Cell.{weight, has, marked, unmarked, since, locked, released, cell_at, with_mark, with_lock, map_cells}
+use Rattle.house.specs.Cell.{weight, has, marked, unmarked, cell_at, with_mark, map_cells}
 use Rattle.house.proofs.Tests.{is, same, and_yes, and_no}
 use Rattle.house.proofs.Lists.{length_map_from, get_or_map_from}
 
@@ -106,80 +106,6 @@ module _ (n m : Mark) (c : ℕ) where
     | inr y ↦ rw y (elim (is (alike n m)) [ inl e ↦ rw e (rw (eqb-true (weight n) (weight m) e) y) | inr e ↦ rw e ])
   ]
 
--- The labels at which a read lock was first taken stand above the marks, in the sixteens
-
-has_above : (m : Mark) (c k : ℕ) → has m (c + 16 * k) ≡ has m c
-unfolding has
-has_above Read c k = let e : 16 * k ≡ 1 * (2 * (8 * k)) = omega arith in rw e (added_below 1 (8 * k) c (omega arith))
-has_above Write c k = let e : 16 * k ≡ 2 * (2 * (4 * k)) = omega arith in rw e (added_below 2 (4 * k) c (omega arith))
-has_above Certify c k = let e : 16 * k ≡ 4 * (2 * (2 * k)) = omega arith in rw e (added_below 4 (2 * k) c (omega arith))
-has_above Signalled c k = let e : 16 * k ≡ 8 * (2 * k) = omega arith in rw e (added_below 8 k c (omega arith))
-
-has_low : (m : Mark) (c : ℕ) → has m (c % 16) ≡ has m c
-has_low m c = sym (has_above m (c % 16) (c / 16)) ∙ ap (has m) whole
-  where
-    whole : c % 16 + 16 * (c / 16) ≡ c
-    whole = omega arith
-
-since_low : (c : ℕ) → since (c % 16) ≡ 0
-unfolding since
-since_low c = omega arith
-
--- the marks leave them alone
-
-low_room : (m : Mark) (c : ℕ) → has m c ≡ false → c % 16 + weight m < 16
-unfolding has
-low_room Read c e = omega (arith, eqb-false)
-low_room Write c e = omega (arith, eqb-false)
-low_room Certify c e = omega (arith, eqb-false)
-low_room Signalled c e = omega (arith, eqb-false)
-
-low_removable : (m : Mark) (c : ℕ) → has m c ≡ true → weight m ≤ c % 16
-unfolding has
-low_removable Read c e = omega (arith, eqb-true)
-low_removable Write c e = omega (arith, eqb-true)
-low_removable Certify c e = omega (arith, eqb-true)
-low_removable Signalled c e = omega (arith, eqb-true)
-
-pub since_marked : (m : Mark) (c : ℕ) → since (marked m c) ≡ since c
-unfolding since marked
-since_marked m c = elim (is (has m c)) [ inl e ↦ rw e | inr e ↦ rw e (let r = low_room m c e in omega arith) ]
-
-pub since_unmarked : (m : Mark) (c : ℕ) → since (unmarked m c) ≡ since c
-unfolding since unmarked
-since_unmarked m c = elim (is (has m c)) [ inl e ↦ rw e (let r = low_removable m c e in omega arith) | inr e ↦ rw e ]
-
--- a read lock that is taken at n labels, or was before
-pub has_locked : (m : Mark) (n c : ℕ) → has m (locked n c) ≡ (alike m Read || has m c)
-unfolding locked
-has_locked m n c =
-    elim (is (has Read c)) [
-      | inl e ↦ rw e (had m Read c e)
-      | inr e ↦ rw (e, has_above m (marked Read (c % 16)) (n % 16), has_marked m Read (c % 16), has_low m c)
-    ]
-
--- of one that is taken now, the marks fill the lower half
-pub locked_small : (c : ℕ) → has Read c ≡ false → marked Read (c % 16) < 16
-unfolding marked
-locked_small c e = rw (has_low Read c ∙ e) (low_room Read c e)
-
-pub locked_before : (n c : ℕ) → has Read c ≡ true → locked n c ≡ c
-unfolding locked
-locked_before n c e = rw e
-
-pub since_locked : (n c : ℕ) → has Read c ≡ false → n < 16 → since (locked n c) ≡ n
-unfolding locked since
-since_locked n c e b = rw e (let s = locked_small c e in omega arith)
-
--- and one that is let go with its signal
-pub has_released : (m : Mark) (c : ℕ) → has m (released c) ≡ (not (alike m Signalled) && (not (alike m Read) && has m c))
-unfolding released
-has_released m c = rw (has_unmarked m Signalled (unmarked Read (c % 16)), has_unmarked m Read (c % 16), has_low m c)
-
-pub since_released : (c : ℕ) → since (released c) ≡ 0
-unfolding released
-since_released c = rw (since_unmarked Signalled (unmarked Read (c % 16)), since_unmarked Read (c % 16)) (since_low c)
-
 -- Where the cells lie: the cell of place p and item i is number p * 64 + i, and no other
 
 pub place_of : (p i : ℕ) → i < 64 → (p * 64 + i) / 64 ≡ p
@@ -193,10 +119,6 @@ module _ (cells : List ℕ) (long : length cells ≡ 2048) where
   unfolding cell_at with_mark
   cell_here m p i b a = get_or-set_same cells (p * 64 + i) _ 0 (omega arith)
 
-  pub cell_locked : (n p i : ℕ) → p < 32 → i < 64 → cell_at (with_lock n cells p i) p i ≡ locked n (cell_at cells p i)
-  unfolding cell_at with_lock
-  cell_locked n p i b a = get_or-set_same cells (p * 64 + i) _ 0 (omega arith)
-
   pub cell_mapped : (f : ℕ → ℕ → ℕ → ℕ) (p i : ℕ) → p < 32 → i < 64 → cell_at (map_cells f cells) p i ≡ f p i (cell_at cells p i)
   unfolding cell_at map_cells
   cell_mapped f p i b a =
@@ -206,10 +128,6 @@ module _ (cells : List ℕ) (long : length cells ≡ 2048) where
   pub length_with_mark : (m : Mark) (p i : ℕ) → length (with_mark m cells p i) ≡ 2048
   unfolding with_mark
   length_with_mark m p i = simp length-set long
-
-  pub length_with_lock : (n p i : ℕ) → length (with_lock n cells p i) ≡ 2048
-  unfolding with_lock
-  length_with_lock n p i = simp length-set long
 
   pub length_map_cells : (f : ℕ → ℕ → ℕ → ℕ) → length (map_cells f cells) ≡ 2048
   unfolding map_cells
@@ -222,10 +140,9 @@ cells_same cells others long long' e =
     ext_get_or 0 cells others (long ∙ sym long')
     (λ n b. let at : n / 64 * 64 + n % 64 ≡ n = omega arith in rw at at (e (n / 64) (n % 64) (omega arith) (omega arith)))
 
--- a cell that is set leaves the others
-cell_else : (cells : List ℕ) (v p i q j : ℕ) → i < 64 → j < 64 → (q ≡ p → j ≢ i) → cell_at (set cells (p * 64 + i) v) q j ≡ cell_at cells q j
-unfolding cell_at
-cell_else cells v p i q j a b n = get_or-set_other cells (p * 64 + i) (q * 64 + j) _ 0 (λ e. n (same_place e) (same_item e))
+pub cell_elsewhere : (m : Mark) (cells : List ℕ) (p i q j : ℕ) → i < 64 → j < 64 → (q ≡ p → j ≢ i) → cell_at (with_mark m cells p i) q j ≡ cell_at cells q j
+unfolding cell_at with_mark
+cell_elsewhere m cells p i q j a b n = get_or-set_other cells (p * 64 + i) (q * 64 + j) _ 0 (λ e. n (same_place e) (same_item e))
   where
     same_place : q * 64 + j ≡ p * 64 + i → q ≡ p
     same_place e = omega arith
@@ -233,26 +150,10 @@ cell_else cells v p i q j a b n = get_or-set_other cells (p * 64 + i) (q * 64 + 
     same_item : q * 64 + j ≡ p * 64 + i → j ≡ i
     same_item e = omega arith
 
-pub cell_elsewhere : (m : Mark) (cells : List ℕ) (p i q j : ℕ) → i < 64 → j < 64 → (q ≡ p → j ≢ i) → cell_at (with_mark m cells p i) q j ≡ cell_at cells q j
-unfolding with_mark
-cell_elsewhere m cells p i q j a b n = cell_else cells _ p i q j a b n
-
-pub lock_elsewhere : (n : ℕ) (cells : List ℕ) (p i q j : ℕ) → i < 64 → j < 64 → (q ≡ p → j ≢ i) → cell_at (with_lock n cells p i) q j ≡ cell_at cells q j
-unfolding with_lock
-lock_elsewhere n cells p i q j a b d = cell_else cells _ p i q j a b d
-
 -- what the cells of a place have once that of item i is marked
 pub has_with_mark : (cells : List ℕ) → length cells ≡ 2048 → (n m : Mark) (p i j : ℕ) → p < 32 → i < 64 → j < 64 → has n (cell_at (with_mark m cells p i) p j) ≡ (alike n m && eqb j i || has n (cell_at cells p j))
 has_with_mark cells long n m p i j b a c =
     elim (same j i) [
       | inl e ↦ rw (e, cell_here cells long m p i b a, has_marked n m (cell_at cells p i), eq-eqb i i refl, and_yes (alike n m))
       | inr d ↦ rw (cell_elsewhere m cells p i p j a c (λ e. d), ne_eqb j i d, and_no (alike n m))
-    ]
-
--- and once it is locked
-pub has_with_lock : (cells : List ℕ) → length cells ≡ 2048 → (m : Mark) (n p i j : ℕ) → p < 32 → i < 64 → j < 64 → has m (cell_at (with_lock n cells p i) p j) ≡ (alike m Read && eqb j i || has m (cell_at cells p j))
-has_with_lock cells long m n p i j b a c =
-    elim (same j i) [
-      | inl e ↦ rw (e, cell_locked cells long n p i b a, has_locked m n (cell_at cells p i), eq-eqb i i refl, and_yes (alike m Read))
-      | inr d ↦ rw (lock_elsewhere n cells p i p j a c (λ e. d), ne_eqb j i d, and_no (alike m Read))
     ]

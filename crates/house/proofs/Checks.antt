@@ -16,7 +16,7 @@ use Rattle.house.specs.declared.Request.{Request}
 use Rattle.house.specs.Search.{nobody, any_of, distinct}
 use Rattle.house.specs.Checks.{foremost, some_applies, test_of, before}
 use Rattle.house.specs.House.{dominates, item_at}
-use Rattle.house.specs.Rules.{read, write, ◌does◌, asker, no_level, uses_item, unused_set, unknown, no_item, forbidden, blank_sheet, stopped, untimely, labelless, no_label, worn_out, spent, crowded, ticketless, delayed, refusals, checks, verdict}
+use Rattle.house.specs.Rules.{read, write, ◌does◌, asker, no_level, uses_item, unused_set, unknown, no_item, forbidden, blank_sheet, stopped, untimely, worn_out, crowded, ticketless, delayed, refusals, checks, verdict}
 use Rattle.house.proofs.Tests.{is, clash, and_true, and_right_false, and_no, or_false, or_left, or_right, or_elim, not_is, not_of}
 use Rattle.house.proofs.Operations.{OperationOf, operation_of}
 
@@ -115,10 +115,7 @@ pub record Clear (h : House) (q : Request) : Type 0 where
   pub drawn : blank_sheet q ≡ false
   pub unstopped : stopped h q ≡ false
   pub timely : untimely h q ≡ false
-  pub labels : labelless h q ≡ false
-  pub labelled : no_label h q ≡ false
   pub fresh : worn_out h q ≡ false
-  pub unspent : spent h q ≡ false
   pub roomy : crowded h q ≡ false
   pub ticketed : ticketless h q ≡ false
 
@@ -141,10 +138,7 @@ clear h q e =
       drawn = past 15;
       unstopped = past 2;
       timely = past 9;
-      labels = past 18;
-      labelled = past 19;
       fresh = past 10;
-      unspent = past 17;
       roomy = past 11;
       ticketed = past 12;
     }

@@ -4,7 +4,7 @@
 -- Assumes nothing.
 use Prim.Native.Nat.{ℕ, ◌<◌}
 use native.Mathlib.Omega.{arith}
-use mathlib.Core.Path.{◌≡◌, refl, ap, ◌∙◌}
+use mathlib.Core.Path.{◌≡◌, refl, ap}
 use mathlib.Core.Logic.{◌≢◌, inl, inr}
 use mathlib.Core.Bool.{false}
 use mathlib.Core.List.{List}
@@ -17,12 +17,11 @@ use Rattle.house.specs.declared.Mark.TheVariants.{Read, Write, Certify}
 use Rattle.house.specs.declared.Place.{Place}
 use Rattle.house.specs.declared.Standing.TheVariants.{Active, Certified}
 use Rattle.house.specs.Cell.{cell_at, map_cells, holds}
-use Rattle.house.specs.House.{fixed, Sizes, blank, vacant, item_at, pending_at, place_at, at_label, next_at, with_standing, with_labels}
-use Rattle.house.specs.Rules.{ticket_after, counted, begun, read_by, certify, commit, written_by, wrote, signals_at, signalled_cell, signalled, converted_cell, certified_by, cleared_cell, dropped_pending, forgotten, forgets, left, committed_item, committed_by, aborted_by, noted, saved_by, returned_cell, returned_pending, returned_by}
+use Rattle.house.specs.House.{fixed, Sizes, blank, vacant, item_at, pending_at, place_at, next_at}
+use Rattle.house.specs.Rules.{ticket_after, begun, read_by, certify, commit, written_by, signals_at, signalled_cell, signalled, converted_cell, certified_by, cleared_cell, dropped_pending, left, committed_item, committed_by, aborted_by}
 use Rattle.house.proofs.Tests.{is}
 use Rattle.house.proofs.Lists.{length_map_from, get_or_map_from, map_from_kept, map_map_from_same}
-use Rattle.house.proofs.Cells.{cell_elsewhere, lock_elsewhere, cell_mapped, length_with_mark, length_with_lock, length_map_cells}
-use Rattle.house.proofs.Labels.{length_noted, length_forgotten}
+use Rattle.house.proofs.Cells.{cell_elsewhere, cell_mapped, length_with_mark, length_map_cells}
 
 -- a list with one element set, read there and elsewhere
 place_set : (places : List Place) → length places ≡ 32 → (p : ℕ) (x : Place) → p < 32 → place_at (set places p x) p ≡ x
@@ -35,9 +34,9 @@ module _ {h : House} (z : Sizes h) where
   -- Begin
   pub begun_sizes : (l me : ℕ) → Sizes (begun h l me)
   unfolding begun
-  begun_sizes l me = record { order = z.order; items = z.items; pending = z.pending; places = simp length-set z.places; next = simp length-set z.next; cells = z.cells; saved = z.saved; counts = z.counts }
+  begun_sizes l me = record { order = z.order; items = z.items; pending = z.pending; places = simp length-set z.places; next = simp length-set z.next; cells = z.cells }
 
-  pub begun_place : (l me : ℕ) → me < 32 → place_at (begun h l me).places me ≡ record { standing = Active; labels = 0; count = 0; ticket = next_at h.next l }
+  pub begun_place : (l me : ℕ) → me < 32 → place_at (begun h l me).places me ≡ record { standing = Active; ticket = next_at h.next l }
   unfolding begun
   begun_place l me b = place_set h.places z.places me _ b
 
@@ -48,20 +47,12 @@ module _ {h : House} (z : Sizes h) where
   -- Read
   pub read_sizes : (me i : ℕ) → Sizes (read_by h me i)
   unfolding read_by
-  read_sizes me i = record { order = z.order; items = z.items; pending = z.pending; places = simp length-set z.places; next = z.next; cells = length_with_lock h.cells z.cells (place_at h.places me).labels me i; saved = z.saved; counts = z.counts }
-
-  pub read_place : (me i : ℕ) → me < 32 → place_at (read_by h me i).places me ≡ counted (place_at h.places me)
-  unfolding read_by
-  read_place me i b = place_set h.places z.places me _ b
+  read_sizes me i = record { order = z.order; items = z.items; pending = z.pending; places = z.places; next = z.next; cells = length_with_mark h.cells z.cells Read me i }
 
   -- Write
   pub written_sizes : (me i v : ℕ) → Sizes (written_by h me i v)
   unfolding written_by
-  written_sizes me i v = record { order = z.order; items = z.items; pending = simp length-set z.pending; places = simp length-set z.places; next = z.next; cells = length_with_mark h.cells z.cells Write me i; saved = z.saved; counts = z.counts }
-
-  pub written_place : (me i v : ℕ) → me < 32 → place_at (written_by h me i v).places me ≡ counted (place_at h.places me)
-  unfolding written_by
-  written_place me i v b = place_set h.places z.places me _ b
+  written_sizes me i v = record { order = z.order; items = z.items; pending = simp length-set z.pending; places = z.places; next = z.next; cells = length_with_mark h.cells z.cells Write me i }
 
   pub written_pending : (me i v : ℕ) → i < 64 → pending_at (written_by h me i v).pending i ≡ v
   unfolding written_by
@@ -84,9 +75,9 @@ module _ {h : House} (z : Sizes h) where
   -- Certify
   pub certified_sizes : (me : ℕ) → Sizes (certified_by h me)
   unfolding certified_by
-  certified_sizes me = record { order = z.order; items = z.items; pending = z.pending; places = simp length-set z.places; next = z.next; cells = length_map_cells (signalled certify h me) (signalled_long certify me) (converted_cell me); saved = z.saved; counts = z.counts }
+  certified_sizes me = record { order = z.order; items = z.items; pending = z.pending; places = simp length-set z.places; next = z.next; cells = length_map_cells (signalled certify h me) (signalled_long certify me) (converted_cell me) }
 
-  pub certified_place : (me : ℕ) → me < 32 → place_at (certified_by h me).places me ≡ with_standing (place_at h.places me) Certified
+  pub certified_place : (me : ℕ) → me < 32 → place_at (certified_by h me).places me ≡ record { standing = Certified; ticket = (place_at h.places me).ticket }
   unfolding certified_by
   certified_place me b = place_set h.places z.places me _ b
 
@@ -97,15 +88,15 @@ module _ {h : House} (z : Sizes h) where
   -- Commit and abort
   module _ (cells : List ℕ) (me : ℕ) where
     pub left_sizes : length cells ≡ 2048 → Sizes (left cells h me)
-    unfolding left forgets
-    left_sizes long = record { order = z.order; items = z.items; pending = simp length_map_from z.pending; places = simp length-set z.places; next = z.next; cells = length_map_cells cells long (cleared_cell me); saved = simp length_forgotten z.saved; counts = simp length_forgotten z.counts }
+    unfolding left
+    left_sizes long = record { order = z.order; items = z.items; pending = simp length_map_from z.pending; places = simp length-set z.places; next = z.next; cells = length_map_cells cells long (cleared_cell me) }
 
     pub left_pending : (i : ℕ) → i < 64 → pending_at (left cells h me).pending i ≡ dropped_pending h.cells me i (pending_at h.pending i)
     unfolding left
     left_pending i a = let n = z.pending in get_or_map_from (dropped_pending h.cells me) h.pending i 0 (omega arith)
 
     pub left_place : me < 32 → place_at (left cells h me).places me ≡ vacant
-    unfolding left forgets
+    unfolding left
     left_place b = place_set h.places z.places me _ b
 
     pub left_cell : length cells ≡ 2048 → (p i : ℕ) → p < 32 → i < 64 → cell_at (left cells h me).cells p i ≡ cleared_cell me p i (cell_at cells p i)
@@ -115,56 +106,10 @@ module _ {h : House} (z : Sizes h) where
   pub committed_sizes : (me : ℕ) → Sizes (committed_by h me)
   committed_sizes me =
       let y = left_sizes (signalled commit h me) me (signalled_long commit me) in
-      record { order = y.order; items = simp length_map_from z.items; pending = y.pending; places = y.places; next = y.next; cells = y.cells; saved = y.saved; counts = y.counts }
+      record { order = y.order; items = simp length_map_from z.items; pending = y.pending; places = y.places; next = y.next; cells = y.cells }
 
   pub committed_item_lem : (me i : ℕ) → i < 64 → item_at (committed_by h me).items i ≡ committed_item h.cells h.pending me i (item_at h.items i)
   committed_item_lem me i a = let n = z.items in get_or_map_from (committed_item h.cells h.pending me) h.items i blank (omega arith)
-
-  -- Save
-  pub saved_sizes : (me n : ℕ) → Sizes (saved_by h me n)
-  unfolding saved_by
-  saved_sizes me n =
-      record {
-        order = z.order;
-        items = z.items;
-        pending = z.pending;
-        places = simp length-set z.places;
-        next = z.next;
-        cells = z.cells;
-        saved = simp length_noted z.saved;
-        counts = simp length_noted z.counts;
-      }
-
-  pub saved_place : (me n : ℕ) → me < 32 → let x = place_at h.places me in place_at (saved_by h me n).places me ≡ with_labels x n x.count
-  unfolding saved_by
-  saved_place me n b = place_set h.places z.places me _ b
-
-  -- Return
-  pub returned_sizes : (me n : ℕ) → Sizes (returned_by h me n)
-  unfolding returned_by forgets
-  returned_sizes me n =
-      record {
-        order = z.order;
-        items = z.items;
-        pending = simp length_map_from z.pending;
-        places = simp length-set z.places;
-        next = z.next;
-        cells = length_map_cells h.cells z.cells (returned_cell h.saved me n);
-        saved = simp length_forgotten z.saved;
-        counts = simp length_forgotten z.counts;
-      }
-
-  pub returned_pending_lem : (me n i : ℕ) → i < 64 → pending_at (returned_by h me n).pending i ≡ returned_pending h.cells h.saved me n i (pending_at h.pending i)
-  unfolding returned_by
-  returned_pending_lem me n i a = let m = z.pending in get_or_map_from (returned_pending h.cells h.saved me n) h.pending i 0 (omega arith)
-
-  pub returned_place : (me n : ℕ) → me < 32 → place_at (returned_by h me n).places me ≡ with_labels (place_at h.places me) n (at_label h.counts me n)
-  unfolding returned_by forgets
-  returned_place me n b = place_set h.places z.places me _ b
-
-  pub returned_cell_lem : (me n p i : ℕ) → p < 32 → i < 64 → cell_at (returned_by h me n).cells p i ≡ returned_cell h.saved me n p i (cell_at h.cells p i)
-  unfolding returned_by
-  returned_cell_lem me n p i b a = cell_mapped h.cells z.cells (returned_cell h.saved me n) p i b a
 
 -- What an effect does not reach
 
@@ -179,19 +124,11 @@ module _ (h : House) where
 
   pub read_cell_other : (me i p j : ℕ) → i < 64 → j < 64 → (p ≡ me → j ≢ i) → cell_at (read_by h me i).cells p j ≡ cell_at h.cells p j
   unfolding read_by
-  read_cell_other me i p j a b n = lock_elsewhere (place_at h.places me).labels h.cells me i p j a b n
-
-  pub read_place_other : (me i p : ℕ) → p ≢ me → place_at (read_by h me i).places p ≡ place_at h.places p
-  unfolding read_by
-  read_place_other me i p n = place_other h.places me p _ n
+  read_cell_other me i p j a b n = cell_elsewhere Read h.cells me i p j a b n
 
   pub written_cell_other : (me i v p j : ℕ) → i < 64 → j < 64 → (p ≡ me → j ≢ i) → cell_at (written_by h me i v).cells p j ≡ cell_at h.cells p j
   unfolding written_by
   written_cell_other me i v p j a b n = cell_elsewhere Write h.cells me i p j a b n
-
-  pub written_place_other : (me i v p : ℕ) → p ≢ me → place_at (written_by h me i v).places p ≡ place_at h.places p
-  unfolding written_by
-  written_place_other me i v p n = place_other h.places me p _ n
 
   pub written_pending_other : (me i v j : ℕ) → j ≢ i → pending_at (written_by h me i v).pending j ≡ pending_at h.pending j
   unfolding written_by
@@ -202,16 +139,8 @@ module _ (h : House) where
   certified_place_other me p n = place_other h.places me p _ n
 
   pub left_place_other : (cells : List ℕ) (me p : ℕ) → p ≢ me → place_at (left cells h me).places p ≡ place_at h.places p
-  unfolding left forgets
+  unfolding left
   left_place_other cells me p n = place_other h.places me p _ n
-
-  pub saved_place_other : (me n p : ℕ) → p ≢ me → place_at (saved_by h me n).places p ≡ place_at h.places p
-  unfolding saved_by
-  saved_place_other me n p d = place_other h.places me p _ d
-
-  pub returned_place_other : (me n p : ℕ) → p ≢ me → place_at (returned_by h me n).places p ≡ place_at h.places p
-  unfolding returned_by forgets
-  returned_place_other me n p d = place_other h.places me p _ d
 
 -- What an opening fixed stays
 
@@ -237,17 +166,9 @@ module _ (h : House) where
   committed_level me i x = elim (is (holds h.cells Certify me i)) [ inl e ↦ rw e | inr e ↦ rw e ]
 
   pub committed_fixed : (me : ℕ) → fixed (committed_by h me) ≡ fixed h
-  unfolding fixed left forgets
+  unfolding fixed left
   committed_fixed me = ap (λ l. (h.count, h.order, h.rule, l)) (map_map_from_same (λ x. x.level) 0 (committed_item h.cells h.pending me) h.items (committed_level me))
 
   pub aborted_fixed : (me : ℕ) → fixed (aborted_by h me) ≡ fixed h
-  unfolding fixed left forgets
+  unfolding fixed left
   aborted_fixed me = refl
-
-  pub saved_fixed : (me n : ℕ) → fixed (saved_by h me n) ≡ fixed h
-  unfolding fixed saved_by
-  saved_fixed me n = refl
-
-  pub returned_fixed : (me n : ℕ) → fixed (returned_by h me n) ≡ fixed h
-  unfolding fixed returned_by forgets
-  returned_fixed me n = refl

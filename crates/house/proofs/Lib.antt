@@ -8,7 +8,6 @@ pub mod Branches
 pub mod Cells
 pub mod Holders
 pub mod Places
-pub mod Labels
 pub mod Effects
 pub mod Checks
 pub mod Steps

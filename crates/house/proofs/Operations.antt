@@ -7,7 +7,7 @@ use mathlib.Core.Logic.{◌≢◌}
 use mathlib.Core.Bool.{false}
 use borrow.Author.Tests.{ltb-false}
 use Rattle.house.specs.declared.Request.{Request}
-use Rattle.house.specs.Rules.{begin, read, write, certify, commit, abort, ask, save, back, no_operation}
+use Rattle.house.specs.Rules.{begin, read, write, certify, commit, abort, ask, no_operation}
 
 pub data OperationOf (q : Request) : Type 0 where
   is_begin : q.operation ≡ begin → OperationOf q
@@ -17,10 +17,8 @@ pub data OperationOf (q : Request) : Type 0 where
   is_commit : q.operation ≡ commit → OperationOf q
   is_abort : q.operation ≡ abort → OperationOf q
   is_ask : q.operation ≡ ask → OperationOf q
-  is_save : q.operation ≡ save → OperationOf q
-  is_back : q.operation ≡ back → OperationOf q
 
-of_number : {q : Request} (n : ℕ) → q.operation ≡ n → n < 9 → OperationOf q
+of_number : {q : Request} (n : ℕ) → q.operation ≡ n → n < 7 → OperationOf q
 of_number zero e b = is_begin e
 of_number (suc zero) e b = is_read e
 of_number (suc (suc zero)) e b = is_write e
@@ -28,13 +26,11 @@ of_number (suc (suc (suc zero))) e b = is_certify e
 of_number (suc (suc (suc (suc zero)))) e b = is_commit e
 of_number (suc (suc (suc (suc (suc zero))))) e b = is_abort e
 of_number (suc (suc (suc (suc (suc (suc zero)))))) e b = is_ask e
-of_number (suc (suc (suc (suc (suc (suc (suc zero))))))) e b = is_save e
-of_number (suc (suc (suc (suc (suc (suc (suc (suc zero)))))))) e b = is_back e
-of_number (suc (suc (suc (suc (suc (suc (suc (suc (suc n))))))))) e b = absurd (omega arith)
+of_number (suc (suc (suc (suc (suc (suc (suc n))))))) e b = absurd (omega arith)
 
 pub operation_of : (q : Request) → no_operation q ≡ false → OperationOf q
 unfolding no_operation
-operation_of q n = of_number q.operation refl (omega (arith, ltb-false 8 q.operation n))
+operation_of q n = of_number q.operation refl (omega (arith, ltb-false 6 q.operation n))
 
 -- the number of any other
 pub not_begin : {k n : ℕ} → k ≡ suc n → k ≢ begin

@@ -2,27 +2,27 @@
 -- A definition that is added to house/specs joins its list here; .ci/names says which is missing.
 -- Assumes nothing.
 use Rattle.house.specs.Search.{scan, map_from}
-use Rattle.house.specs.Cell.{has, marked, unmarked, since, locked, released, cell_at, with_mark, with_lock, map_cells, holds, another_holds, is_signalled, first_signalled, count_signalled}
+use Rattle.house.specs.Cell.{has, marked, unmarked, cell_at, with_mark, map_cells, holds, another_holds, is_signalled, first_signalled, count_signalled}
 use Rattle.house.specs.Matrix.{read_lock}
-use Rattle.house.specs.House.{dominates, above, is_label, at_label, map_labels, fixed, free_at, has_ticket, seek, vacancy}
+use Rattle.house.specs.House.{dominates, above, fixed, free_at, has_ticket, seek, vacancy}
 use Rattle.house.specs.Order.{old_chain, diamond, large, loose, tied, broken, wrong_at, disordered}
-use Rattle.house.specs.Rules.{no_operation, no_level, unused_set, unknown, no_item, forbidden, blank_sheet, stopped, untimely, labelless, no_label, worn_out, spent, crowded, ticketless, another_claims, peer_reads, hinders, wants, holder_on, conflict, delayed, refusals, checks, verdict, ticket_after, grown, begun, tallied, counted, read_by, read_answer, written_by, wrote, signalled_cell, signalled, converted_cell, certified_by, forgotten, forgets, dropped_pending, cleared_cell, left, committed_item, noted, saved_by, returned_cell, returned_pending, returned_by, ask_answer, served, performed, unserved, stepped}
+use Rattle.house.specs.Rules.{no_operation, no_level, unused_set, unknown, no_item, forbidden, blank_sheet, stopped, untimely, worn_out, crowded, ticketless, another_claims, peer_reads, hinders, wants, holder_on, conflict, delayed, refusals, checks, verdict, ticket_after, grown, begun, read_by, read_answer, written_by, wrote, signalled_cell, signalled, converted_cell, certified_by, dropped_pending, cleared_cell, left, committed_item, ask_answer, served, performed, unserved, stepped}
 use Rattle.house.specs.Opening.{wrong_count, high_at, wrong_level, wrong_table, open_verdict, row_at, rows, opened, opening}
 use Rattle.house.specs.Run.{finally, replies, trace}
 
 -- the list of the checks, and the test of each
 unfoldable pub tests : Unit {0}
-unfolding refusals checks no_operation no_level unused_set unknown no_item forbidden blank_sheet stopped untimely labelless no_label worn_out spent crowded ticketless delayed
+unfolding refusals checks no_operation no_level unused_set unknown no_item forbidden blank_sheet stopped untimely worn_out crowded ticketless delayed
 tests = tt
 
 -- the searches, the cells and the tests that these are made of
 parts : Unit {0}
-unfolding scan map_from has marked unmarked since locked released cell_at with_mark with_lock map_cells holds another_holds is_signalled first_signalled count_signalled dominates above is_label at_label map_labels fixed free_at has_ticket seek vacancy another_claims peer_reads hinders wants holder_on conflict read_lock
+unfolding scan map_from has marked unmarked cell_at with_mark map_cells holds another_holds is_signalled first_signalled count_signalled dominates above fixed free_at has_ticket seek vacancy another_claims peer_reads hinders wants holder_on conflict read_lock
 parts = tt
 
 -- what is done of each request, and its answer
 effects : Unit {0}
-unfolding ticket_after grown begun tallied counted read_by read_answer written_by wrote signalled_cell signalled converted_cell certified_by forgotten forgets dropped_pending cleared_cell left committed_item noted saved_by returned_cell returned_pending returned_by ask_answer served performed unserved stepped
+unfolding ticket_after grown begun read_by read_answer written_by wrote signalled_cell signalled converted_cell certified_by dropped_pending cleared_cell left committed_item ask_answer served performed unserved stepped
 effects = tt
 
 openings : Unit {0}

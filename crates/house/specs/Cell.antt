@@ -1,6 +1,5 @@
 -- The lock cells. "There are 2,048 lock cells, one for each item and place: read, write, certify, signalled."
--- A cell is one byte, the sum of the weights of its marks and of sixteen for each label that there was when its read lock was first
--- taken (CR 8). The cell of place p and item i is number p * 64 + i.
+-- A cell is one byte, the sum of the weights of its marks. The cell of place p and item i is number p * 64 + i.
 -- Assumes nothing.
 use Rattle.std.specs.Prelude.{ℕ, ◌+◌, ◌-◌, ◌*◌, ◌/◌, ◌%◌, Bool, cond, not, ◌&&◌, List, get_or, set, eqb}
 use Rattle.house.specs.declared.Found.{Found}
@@ -25,29 +24,12 @@ marked m c = cond (has m c) c (c + weight m)
 unfoldable pub unmarked : Mark → ℕ → ℕ
 unmarked m c = cond (has m c) (c - weight m) c
 
--- how many labels there were when the read lock was first taken; 0 where there is none
-unfoldable pub since : ℕ → ℕ
-since c = c / 16
-
--- the cell with the read lock, which is first taken now, at n labels, or was before. At most 15 fit; no house that can be reached has
--- more than four
-unfoldable pub locked : ℕ → ℕ → ℕ
-locked n c = cond (has Read c) c (marked Read (c % 16) + 16 * (n % 16))
-
--- the cell without the read lock and its signal
-unfoldable pub released : ℕ → ℕ
-released c = unmarked Signalled (unmarked Read (c % 16))
-
 unfoldable pub cell_at : List ℕ → ℕ → ℕ → ℕ
 cell_at cells p i = get_or cells (p * 64 + i) 0
 
 -- the cells with that of place p and item i marked
 unfoldable pub with_mark : Mark → List ℕ → ℕ → ℕ → List ℕ
 with_mark m cells p i = set cells (p * 64 + i) (marked m (cell_at cells p i))
-
--- the cells with the read lock of place p on item i, at n labels
-unfoldable pub with_lock : ℕ → List ℕ → ℕ → ℕ → List ℕ
-with_lock n cells p i = set cells (p * 64 + i) (locked n (cell_at cells p i))
 
 -- each cell through f, which is told its place and its item
 unfoldable pub map_cells : (ℕ → ℕ → ℕ → ℕ) → List ℕ → List ℕ

@@ -1,6 +1,6 @@
 -- The parts of a house. "Levels 0 to 3", "1 to 64 items, numbered from 0", "eight places per level, 32 in all".
 -- Assumes nothing.
-use Rattle.std.specs.Prelude.{ℕ, ◌+◌, ◌-◌, ◌*◌, ◌/◌, ◌%◌, Bool, true, false, ◌&&◌, not, List, map, ◌≡◌, length, get_or, set, eqb, leb}
+use Rattle.std.specs.Prelude.{ℕ, ◌+◌, ◌*◌, ◌/◌, Bool, true, false, ◌&&◌, not, List, map, ◌≡◌, length, get_or, set, eqb}
 use Rattle.house.specs.declared.Found.{Found}
 use Rattle.house.specs.declared.House.{House}
 use Rattle.house.specs.declared.Item.{Item}
@@ -8,7 +8,7 @@ use Rattle.house.specs.declared.Place.{Place}
 use Rattle.house.specs.declared.Rule.{Rule}
 use Rattle.house.specs.declared.Standing.{Standing}
 use Rattle.house.specs.declared.Standing.TheVariants.{Free, Active, Certified}
-use Rattle.house.specs.Search.{find, find_round, map_from}
+use Rattle.house.specs.Search.{find, find_round}
 
 -- Of the 16 bytes, "row by row", "1 says that the column's level dominates the row's" (CR 6): level a dominates level b
 unfoldable pub dominates : List ℕ → ℕ → ℕ → Bool
@@ -27,7 +27,7 @@ abbrev pub blank : Item
 blank = record { level = 0; value = 0; version = 0 }
 
 abbrev pub vacant : Place
-vacant = record { standing = Free; labels = 0; count = 0; ticket = 0 }
+vacant = record { standing = Free; ticket = 0 }
 
 abbrev pub item_at : List Item → ℕ → Item
 item_at items i = get_or items i blank
@@ -39,50 +39,26 @@ pending_at pending i = get_or pending i 0
 abbrev pub place_at : List Place → ℕ → Place
 place_at places p = get_or places p vacant
 
--- "label, 1 to 4" (CR 8)
-unfoldable pub is_label : ℕ → Bool
-is_label n = not (eqb n 0) && leb n 4
-
--- of a table with four numbers for each item, or for each place, that of item or place k at label n
-unfoldable pub at_label : List ℕ → ℕ → ℕ → ℕ
-at_label table k n = get_or table (k * 4 + (n - 1)) 0
-
--- each number of such a table through f, which is told its item or place, and its label
-unfoldable pub map_labels : (ℕ → ℕ → ℕ → ℕ) → List ℕ → List ℕ
-map_labels f table = map_from 0 (λ j v. f (j / 4) (j % 4 + 1) v) table
-
 -- the next ticket of a level; 0 where none is left
 abbrev pub next_at : List ℕ → ℕ → ℕ
 next_at next l = get_or next l 0
 
--- a place with its standing, and with its labels and its count, changed
-
-abbrev pub with_standing : Place → Standing → Place
-with_standing x s = record { standing = s; labels = x.labels; count = x.count; ticket = x.ticket }
-
-abbrev pub with_labels : Place → ℕ → ℕ → Place
-with_labels x n c = record { standing = x.standing; labels = n; count = c; ticket = x.ticket }
-
 -- a house with one part changed
 
 abbrev pub with_items : House → List Item → House
-with_items h items = record { count = h.count; order = h.order; rule = h.rule; items = items; pending = h.pending; places = h.places; next = h.next; cells = h.cells; saved = h.saved; counts = h.counts }
+with_items h items = record { count = h.count; order = h.order; rule = h.rule; items = items; pending = h.pending; places = h.places; next = h.next; cells = h.cells }
 
 abbrev pub with_pending : House → List ℕ → House
-with_pending h pending = record { count = h.count; order = h.order; rule = h.rule; items = h.items; pending = pending; places = h.places; next = h.next; cells = h.cells; saved = h.saved; counts = h.counts }
+with_pending h pending = record { count = h.count; order = h.order; rule = h.rule; items = h.items; pending = pending; places = h.places; next = h.next; cells = h.cells }
 
 abbrev pub with_place : House → ℕ → Place → House
-with_place h p x = record { count = h.count; order = h.order; rule = h.rule; items = h.items; pending = h.pending; places = set h.places p x; next = h.next; cells = h.cells; saved = h.saved; counts = h.counts }
+with_place h p x = record { count = h.count; order = h.order; rule = h.rule; items = h.items; pending = h.pending; places = set h.places p x; next = h.next; cells = h.cells }
 
 abbrev pub with_next : House → ℕ → ℕ → House
-with_next h l t = record { count = h.count; order = h.order; rule = h.rule; items = h.items; pending = h.pending; places = h.places; next = set h.next l t; cells = h.cells; saved = h.saved; counts = h.counts }
+with_next h l t = record { count = h.count; order = h.order; rule = h.rule; items = h.items; pending = h.pending; places = h.places; next = set h.next l t; cells = h.cells }
 
 abbrev pub with_cells : House → List ℕ → House
-with_cells h cells = record { count = h.count; order = h.order; rule = h.rule; items = h.items; pending = h.pending; places = h.places; next = h.next; cells = cells; saved = h.saved; counts = h.counts }
-
--- what there was at the labels: what was pending, and the counts
-abbrev pub with_tables : House → List ℕ → List ℕ → House
-with_tables h saved counts = record { count = h.count; order = h.order; rule = h.rule; items = h.items; pending = h.pending; places = h.places; next = h.next; cells = h.cells; saved = saved; counts = counts }
+with_cells h cells = record { count = h.count; order = h.order; rule = h.rule; items = h.items; pending = h.pending; places = h.places; next = h.next; cells = cells }
 
 -- what an opening fixes: how many items there are, the order of the levels, the rule, and each item's "fixed level"
 unfoldable pub fixed : House → ℕ × List ℕ × Rule × List ℕ
@@ -96,8 +72,6 @@ pub record Sizes (h : House) : Type 0 where
   pub places : length h.places ≡ 32
   pub next : length h.next ≡ 4
   pub cells : length h.cells ≡ 2048
-  pub saved : length h.saved ≡ 256
-  pub counts : length h.counts ≡ 128
 
 -- Who stands at the places
 

@@ -46,9 +46,9 @@ row_at levels i x = unsaved (get_or levels i 0)
 unfoldable pub rows : List ℕ → List Item
 rows levels = map_from 0 (row_at levels) (replicate 64 blank)
 
--- nothing pending and nothing saved, "every place free and every next ticket 1"; all cells "are clear at opening"
+-- nothing pending, "every place free and every next ticket 1"; all cells "are clear at opening"
 unfoldable pub opened : List ℕ → List ℕ → Rule → House
-opened levels order rule = record { count = length levels; order = order; rule = rule; items = rows levels; pending = replicate 64 0; places = replicate 32 vacant; next = replicate 4 1; cells = replicate 2048 0; saved = replicate 256 0; counts = replicate 128 0 }
+opened levels order rule = record { count = length levels; order = order; rule = rule; items = rows levels; pending = replicate 64 0; places = replicate 32 vacant; next = replicate 4 1; cells = replicate 2048 0 }
 
 -- "A refused opening yields a house of no items with every place free and every next ticket 1", "holds the old chain" (CR 6), and takes
 -- rule A (CR 7)

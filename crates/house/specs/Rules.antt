@@ -4,12 +4,11 @@
 -- Assumes nothing.
 use Rattle.std.specs.Prelude.{ℕ, ◌+◌, Bool, false, ◌&&◌, ◌||◌, not, cond, List, [], ◌∷◌, ◌++◌, set, eqb, ltb, leb}
 use Rattle.house.specs.declared.Answer.{Answer}
-use Rattle.house.specs.declared.Answer.TheVariants.{Refused, Delayed, Done, Ticket, Pair, Signals, Label}
+use Rattle.house.specs.declared.Answer.TheVariants.{Refused, Delayed, Done, Ticket, Pair, Signals}
 use Rattle.house.specs.declared.Found.{Found}
 use Rattle.house.specs.declared.Found.TheVariants.{Nobody}
 use Rattle.house.specs.declared.House.{House}
 use Rattle.house.specs.declared.Item.{Item}
-use Rattle.house.specs.declared.Place.{Place}
 use Rattle.house.specs.declared.Mark.TheVariants.{Read, Write, Certify, Signalled}
 use Rattle.house.specs.declared.Outcome.{Outcome}
 use Rattle.house.specs.declared.Reply.{Reply}
@@ -19,10 +18,10 @@ use Rattle.house.specs.declared.Rule.TheVariants.{A, B}
 use Rattle.house.specs.declared.Standing.TheVariants.{Active, Certified}
 use Rattle.house.specs.Search.{find, if_found, nobody, find_first, map_from}
 use Rattle.house.specs.Checks.{foremost}
-use Rattle.house.specs.Cell.{has, marked, unmarked, since, released, with_mark, with_lock, map_cells, holds, another_holds, is_signalled, first_signalled, count_signalled}
-use Rattle.house.specs.House.{dominates, above, level_of, vacant, item_at, pending_at, place_at, is_label, at_label, map_labels, next_at, with_standing, with_labels, with_items, with_pending, with_place, with_next, with_cells, with_tables, is_active, is_certified, seek, vacancy}
+use Rattle.house.specs.Cell.{has, marked, unmarked, with_mark, map_cells, holds, another_holds, is_signalled, first_signalled, count_signalled}
+use Rattle.house.specs.House.{dominates, above, level_of, vacant, item_at, pending_at, place_at, next_at, with_items, with_pending, with_place, with_next, with_cells, is_active, is_certified, seek, vacancy}
 
--- "Operations: 0 begin, 1 read, 2 write, 3 certify, 4 commit, 5 abort, 6 ask." "Operation 7 saves", "Operation 8 .. returns" (CR 8)
+-- "Operations: 0 begin, 1 read, 2 write, 3 certify, 4 commit, 5 abort, 6 ask."
 
 abbrev pub begin : ℕ
 begin = 0
@@ -45,12 +44,6 @@ abort = 5
 abbrev pub ask : ℕ
 ask = 6
 
-abbrev pub save : ℕ
-save = 7
-
-abbrev pub back : ℕ
-back = 8
-
 infix 60 ◌does◌
 abbrev pub ◌does◌ : Request → ℕ → Bool
 q does n = eqb q.operation n
@@ -61,32 +54,24 @@ q does n = eqb q.operation n
 abbrev pub asker : House → Request → Found
 asker h q = seek h.places q.level q.ticket
 
--- the row of that place; a vacant one where there is none
-abbrev pub asking : House → Request → Place
-asking h q = if_found (asker h q) (place_at h.places) vacant
-
--- 3: "Refusal 3 now means above 8." (CR 8)
+-- 3: "operation above 6"
 unfoldable pub no_operation : Request → Bool
-no_operation q = ltb back q.operation
+no_operation q = ltb ask q.operation
 
 -- 4: "level above 3"
 unfoldable pub no_level : Request → Bool
 no_level q = ltb 3 q.level
 
 -- "Begin uses no field after the level. Read uses item and ticket. Write uses item, ticket and value. The others use the ticket."
--- "Operation 8 carries a label in the value field" (CR 8)
 abbrev pub uses_item : Request → Bool
 uses_item q = q does read || q does write
-
-abbrev pub uses_value : Request → Bool
-uses_value q = q does write || q does back
 
 -- 5: "an unused field is not zero"
 unfoldable pub unused_set : Request → Bool
 unused_set q =
     (not (uses_item q) && not (eqb q.item 0))
     || (q does begin && not (eqb q.ticket 0))
-    || (not (uses_value q) && not (eqb q.value 0))
+    || (not (q does write) && not (eqb q.value 0))
 
 -- 6: "no open transaction at that level has that ticket"
 unfoldable pub unknown : House → Request → Bool
@@ -108,34 +93,21 @@ forbidden h q =
 unfoldable pub blank_sheet : Request → Bool
 blank_sheet q = q does write && eqb q.value 0
 
--- 2: "the transaction has a signalled cell (read, write, certify, commit)"; "operation 7 gets 2 when signalled, operation 8 does
--- not" (CR 8)
+-- 2: "the transaction has a signalled cell (read, write, certify, commit)"
 unfoldable pub stopped : House → Request → Bool
-stopped h q = (q does read || q does write || q does certify || q does commit || q does save) && if_found (asker h q) (is_signalled h.cells) false
+stopped h q = (q does read || q does write || q does certify || q does commit) && if_found (asker h q) (is_signalled h.cells) false
 
--- 9: "wrong time: read, write or certify when certified; commit when active"; "Both new operations get 9 when certified" (CR 8)
+-- 9: "wrong time: read, write or certify when certified; commit when active"
 unfoldable pub untimely : House → Request → Bool
 untimely h q =
-    let standing = (asking h q).standing in
-    cond (q does read || q does write || q does certify || q does save || q does back) (is_certified standing)
+    let standing = if_found (asker h q) (λ me. (place_at h.places me).standing) vacant.standing in
+    cond (q does read || q does write || q does certify) (is_certified standing)
     (cond (q does commit) (is_active standing)
     false)
-
--- 18: "the lowest free label, 1 to 4 ..; a fifth gets 18" (CR 8)
-unfoldable pub labelless : House → Request → Bool
-labelless h q = q does save && leb 4 (asking h q).labels
-
--- 19: "An unknown label gets 19" (CR 8): what is no label, or one that it has not been given or has forgotten
-unfoldable pub no_label : House → Request → Bool
-no_label h q = q does back && not (is_label q.value && leb q.value (asking h q).labels)
 
 -- 10: "write of an item whose committed version is 4,294,967,295"
 unfoldable pub worn_out : House → Request → Bool
 worn_out h q = q does write && leb 4294967295 (item_at h.items q.item).version
-
--- 17: "From the first label on, done reads and writes are counted, at most 32; the next gets 17" (CR 8)
-unfoldable pub spent : House → Request → Bool
-spent h q = uses_item q && leb 32 (asking h q).count
 
 -- 11: "begin: all eight places of the level are taken"
 unfoldable pub crowded : House → Request → Bool
@@ -179,8 +151,7 @@ holder h q = if_found (asker h q) (conflict h.cells q) Nobody
 unfoldable pub delayed : House → Request → Bool
 delayed h q = not (nobody (holder h q))
 
--- "Order of checks: 3, 4, 5, 6, 7, 8, 2, 9, 10, 11, 12, 1", with 15 "after 8 and before 2" (CR 1), 17 "after 10", and "18 and 19 come
--- after 9" (CR 8). First the refusals
+-- "Order of checks: 3, 4, 5, 6, 7, 8, 2, 9, 10, 11, 12, 1", with 15 "after 8 and before 2" (CR 1). First the refusals
 unfoldable pub refusals : House → Request → List (ℕ × Bool)
 refusals h q =
     (3, no_operation q)
@@ -192,10 +163,7 @@ refusals h q =
     ∷ (15, blank_sheet q)
     ∷ (2, stopped h q)
     ∷ (9, untimely h q)
-    ∷ (18, labelless h q)
-    ∷ (19, no_label h q)
     ∷ (10, worn_out h q)
-    ∷ (17, spent h q)
     ∷ (11, crowded h q)
     ∷ (12, ticketless h q)
     ∷ []
@@ -222,20 +190,11 @@ grown v = cond (ltb v 4294967295) (v + 1) v
 unfoldable pub begun : House → ℕ → ℕ → House
 begun h l me =
     let t = next_at h.next l in
-    with_next (with_place h me (record { standing = Active; labels = 0; count = 0; ticket = t })) l (ticket_after t)
+    with_next (with_place h me (record { standing = Active; ticket = t })) l (ticket_after t)
 
--- "From the first label on, done reads and writes are counted" (CR 8). A count of 32 stays; no house that can be reached meets that
-unfoldable pub tallied : ℕ → ℕ
-tallied n = cond (ltb n 32) (n + 1) n
-
-unfoldable pub counted : Place → Place
-counted x = cond (eqb x.labels 0) x (with_labels x x.labels (tallied x.count))
-
--- Read: "the read lock is set", at as many labels as there are
+-- Read: "the read lock is set"
 unfoldable pub read_by : House → ℕ → ℕ → House
-read_by h me i =
-    let x = place_at h.places me in
-    with_place (with_cells h (with_lock x.labels h.cells me i)) me (counted x)
+read_by h me i = with_cells h (with_mark Read h.cells me i)
 
 -- "A transaction that holds the write lock gets the pending value and the committed version plus one. Any other gets the
 -- committed pair."
@@ -247,9 +206,7 @@ read_for h me i = read_answer h.cells (item_at h.items i) (pending_at h.pending 
 
 -- Write: "the write lock is set and the pending value is the given one, also on a second write"
 unfoldable pub written_by : House → ℕ → ℕ → ℕ → House
-written_by h me i v =
-    let x = place_at h.places me in
-    with_pending (with_place (with_cells h (with_mark Write h.cells me i)) me (counted x)) (set h.pending i v)
+written_by h me i v = with_pending (with_cells h (with_mark Write h.cells me i)) (set h.pending i v)
 
 -- the transaction at place p has written item i: it holds write on it or, once certified, certify
 unfoldable pub wrote : List ℕ → ℕ → ℕ → Bool
@@ -275,17 +232,9 @@ converted_cell me p i c = cond (eqb p me && has Write c) (marked Certify (unmark
 
 -- "it is certified"
 unfoldable pub certified_by : House → ℕ → House
-certified_by h me = with_place (with_cells h (map_cells (converted_cell me) (signalled certify h me))) me (with_standing (place_at h.places me) Certified)
-
--- "later labels are forgotten" (CR 8): in a table of what there was at the labels, of what is its own, those after n, up to the last
-unfoldable pub forgotten : (ℕ → Bool) → ℕ → ℕ → List ℕ → List ℕ
-forgotten mine n last table = map_labels (λ k label v. cond (mine k && ltb n label && leb label last) 0 v) table
-
--- the house once `me` has forgotten them: what was pending on the items that it has written, and its counts
-unfoldable pub forgets : House → ℕ → ℕ → House
-forgets h me n =
-    let last = (place_at h.places me).labels in
-    with_tables h (forgotten (wrote h.cells me) n last h.saved) (forgotten (eqb me) n last h.counts)
+certified_by h me =
+    let ticket = (place_at h.places me).ticket in
+    with_place (with_cells h (map_cells (converted_cell me) (signalled certify h me))) me (record { standing = Certified; ticket = ticket })
 
 -- Commit and abort: "Pending values of its items go to 0": of those it has written
 unfoldable pub dropped_pending : List ℕ → ℕ → ℕ → ℕ → ℕ
@@ -295,9 +244,9 @@ dropped_pending cells me i v = cond (wrote cells me i) 0 v
 unfoldable pub cleared_cell : ℕ → ℕ → ℕ → ℕ → ℕ
 cleared_cell me p i c = cond (eqb p me) 0 c
 
--- the house once `me` has left it, with these cells and no label
+-- the house once `me` has left it, with these cells
 unfoldable pub left : List ℕ → House → ℕ → House
-left cells h me = with_pending (with_place (with_cells (forgets h me 0) (map_cells (cleared_cell me) cells)) me vacant) (map_from 0 (dropped_pending h.cells me) h.pending)
+left cells h me = with_pending (with_place (with_cells h (map_cells (cleared_cell me) cells)) me vacant) (map_from 0 (dropped_pending h.cells me) h.pending)
 
 -- Commit: its signals; "Each item with its certify lock takes the pending value, and its version grows by one, however often it
 -- was written."
@@ -311,35 +260,6 @@ committed_by h me = with_items (left (signalled commit h me) h me) (map_from 0 (
 abbrev pub aborted_by : House → ℕ → House
 aborted_by h me = left h.cells h me
 
--- Save: "saves and replies with the lowest free label" (CR 8), which is one more than there are, as a return forgets all later ones. At
--- label n a table has, of what is its own, what there is now
-unfoldable pub noted : (ℕ → Bool) → (ℕ → ℕ) → ℕ → List ℕ → List ℕ
-noted mine now n table = map_labels (λ k label v. cond (mine k && eqb label n) (now k) v) table
-
--- what is pending on the items that it has written, and its count
-unfoldable pub saved_by : House → ℕ → ℕ → House
-saved_by h me n =
-    let x = place_at h.places me in
-    with_place (with_tables h (noted (wrote h.cells me) (pending_at h.pending) n h.saved) (noted (eqb me) (λ p. x.count) n h.counts)) me (with_labels x n x.count)
-
--- Return, to label n: "locks first taken since are released with their signals" (CR 8). A read lock was, if there were n labels or more;
--- a write lock, if nothing was pending at n, for what is written is not 0
-unfoldable pub returned_cell : List ℕ → ℕ → ℕ → ℕ → ℕ → ℕ → ℕ
-returned_cell saved me n p i c =
-    let read' = cond (leb n (since c)) (released c) c in
-    cond (eqb p me) (cond (eqb (at_label saved i n) 0) (unmarked Write read') read') c
-
--- "pending values are as they were then": of the items that it has written, 0 where it had not then
-unfoldable pub returned_pending : List ℕ → List ℕ → ℕ → ℕ → ℕ → ℕ → ℕ
-returned_pending cells saved me n i v = cond (wrote cells me i) (at_label saved i n) v
-
--- "later labels are forgotten, that label stays .. Returning restores the count."
-unfoldable pub returned_by : House → ℕ → ℕ → House
-returned_by h me n =
-    let cells = map_cells (returned_cell h.saved me n) h.cells in
-    let pending = map_from 0 (returned_pending h.cells h.saved me n) h.pending in
-    with_pending (with_place (with_cells (forgets h me n) cells) me (with_labels (place_at h.places me) n (at_label h.counts me n))) pending
-
 -- Ask: "the lowest signalled item of the asker and .. how many are signalled (both 0 when none)"
 unfoldable pub ask_answer : List ℕ → ℕ → Answer
 ask_answer cells me = Signals (if_found (first_signalled cells me) (λ i. i) 0) (count_signalled cells me)
@@ -352,7 +272,7 @@ said q number item ticket value version = record { number = number; operation = 
 -- "Every reply repeats operation, item and ticket as they came, with value and version 0, except these done replies: begin
 -- carries the new ticket; read carries value and version; ask carries in the item field the lowest signalled item of the
 -- asker and in the value field how many are signalled". "In a delay's reply the value field carries the holder's ticket and the
--- version field its level" (CR 5). A save "replies with the lowest free label, 1 to 4, in the value field" (CR 8)
+-- version field its level" (CR 5)
 abbrev pub replied : Request → Answer → Reply
 replied q (Refused n) = said q n q.item q.ticket 0 0
 replied q (Delayed t l) = said q 1 q.item q.ticket t l
@@ -360,7 +280,6 @@ replied q Done = said q 0 q.item q.ticket 0 0
 replied q (Ticket t) = said q 0 q.item t 0 0
 replied q (Pair v n) = said q 0 q.item q.ticket v n
 replied q (Signals i n) = said q 0 i q.ticket n 0
-replied q (Label n) = said q 0 q.item q.ticket n 0
 
 abbrev pub outcome : House → Request → Answer → Outcome
 outcome h q a = record { house = h; reply = replied q a }
@@ -376,17 +295,12 @@ served h q me =
     let commit' = outcome (committed_by h me) q Done in
     let abort' = outcome (aborted_by h me) q Done in
     let ask' = outcome h q (ask_answer h.cells me) in
-    let label = (place_at h.places me).labels + 1 in
-    let save' = outcome (saved_by h me label) q (Label label) in
-    let back' = outcome (returned_by h me q.value) q Done in
     cond (q does read) read'
     (cond (q does write) write'
     (cond (q does certify) certify'
     (cond (q does commit) commit'
     (cond (q does abort) abort'
-    (cond (q does ask) ask'
-    (cond (q does save) save'
-    back'))))))
+    ask'))))
 
 -- a done request; a place that nobody has is met by no request that passed the checks
 unfoldable pub performed : House → Request → Outcome

@@ -16,13 +16,10 @@ pub enum Standing {
     Certified,
 }
 
-// Where a transaction stands while it is open. The ticket of a free place is 0. Its labels are 1 to `labels`, and `count` is how many
-// reads and writes it has done since the first of them.
+// Where a transaction stands while it is open. The ticket of a free place is 0.
 #[derive(Drop)]
 pub struct Place {
     pub standing: Standing,
-    pub labels: u8,
-    pub count: u8,
     pub ticket: u32,
 }
 
@@ -36,10 +33,8 @@ pub enum Rule {
 // The house passes through each step by value. Its order is a table of 4 by 4 bytes, row by row, where 1 says that the column's level
 // dominates the row's. Of the two versions of an item the committed one stands in its row; "a pending
 // value, 0 when nobody has written" in a table beside it, which, being of numbers, can be lent. Place p of level l is number
-// l * 8 + p; a cell is a byte, the sum of the weights of its marks and of 16 for each label that its place had when the read lock
-// was first taken, and the cells of one place lie together, so that a transaction's own 64 are scanned in one sweep. `saved` has
-// for each item what was pending at each label of who has written it, and `counts` for each place its count at each label; what is
-// not used is 0. These and the rule, a byte, stand last, so that the other tables lie where they did.
+// l * 8 + p; a cell is a byte, the sum of the weights of its marks, and the cells of one place lie together, so that a
+// transaction's own 64 are scanned in one sweep. The rule, a byte, stands last, so that the tables lie where they did.
 #[derive(Drop)]
 pub struct House {
     pub count: usize,
@@ -49,8 +44,6 @@ pub struct House {
     pub places: [Place; 32],
     pub next: [u32; 4],
     pub cells: [u8; 2048],
-    pub saved: [u32; 256],
-    pub counts: [u8; 128],
     pub rule: Rule,
 }
 
@@ -99,7 +92,6 @@ pub enum Answer {
     Ticket(u32),
     Pair(u32, u32),
     Signals(u16, u32),
-    Label(u32),
 }
 
 // What a request yields: the next house and the reply.

@@ -11,8 +11,7 @@ ghost use Rattle.house.specs.declared.Mark.TheVariants.{Write, Certify};
 ghost use Rattle.ruling.specs.Judged.{lowest_holder, waits_at, certify_holder};
 
 use house::{Answer, Found, Item, Mark};
-use marks::{has_mark, holds_any, is_written};
-use parts::grow;
+use parts::{grow, has_mark, holds_any};
 
 fn holds_mark(cells: &[u8; 2048], m: Mark, p: usize, i: usize) -> bool
     requires { (p < 32) × (i < 64) }
@@ -69,11 +68,18 @@ fn other_claims(cells: &[u8; 2048], me: usize, i: usize) -> bool
     requires { (me < 32) × (i < 64) }
     ensures { result ≡ any (another_claims cells.now me i) 0 32 }
 {
-    if is_written(cells[me * 64 + i]) {
+    if claims(cells, me, i) {
         some_other_claims(cells, me, i)
     } else {
         anybody_claims(cells, i)
     }
+}
+
+fn claims(cells: &[u8; 2048], p: usize, i: usize) -> bool
+    requires { (p < 32) × (i < 64) }
+    ensures { result ≡ (holds cells.now Write p i || holds cells.now Certify p i) }
+{
+    holds_mark(cells, Mark::Write, p, i) | holds_mark(cells, Mark::Certify, p, i)
 }
 
 fn anybody_claims(cells: &[u8; 2048], i: usize) -> bool
@@ -82,7 +88,7 @@ fn anybody_claims(cells: &[u8; 2048], i: usize) -> bool
 {
     let mut hit = false;
     for p in 0..32 {
-        hit = hit | is_written(cells[p * 64 + i]);
+        hit = hit | claims(cells, p, i);
     }
     hit
 }

@@ -2,11 +2,11 @@
 
 ghost use Rattle.std.specs.Prelude.{◌≡◌, [], ◌∷◌, ◌<◌, length, get_or};
 ghost use Rattle.house.specs.Checks.{foremost};
-ghost use Rattle.house.specs.Order.{old_chain};
+ghost use Rattle.house.specs.Order.{old_chain, large, loose, tied, broken, wrong_at, disordered};
 ghost use Rattle.house.specs.Opening.{wrong_length, high_at, wrong_level, wrong_table, unsaved, rows, opened, opening};
 
 use house::{House, Item, Opening, Place, Rule, Standing};
-use tables::is_disordered;
+use parts::dominates;
 
 // Past the last byte there is 0.
 fn byte_at(bytes: &[u8], n: usize) -> u8
@@ -54,6 +54,54 @@ fn ordered_by(table: &[u8]) -> [u8; 16]
         out[n] = byte_at(table, n);
     }
     out
+}
+
+fn is_large(order: [u8; 16], a: u8, b: u8) -> bool
+    requires { (a < 4) × (b < 4) }
+    ensures { result ≡ large order a b }
+{
+    let n = 4 * (b as usize) + (a as usize);
+    1 < order[n]
+}
+
+fn is_loose(order: [u8; 16], a: u8) -> bool
+    ensures { result ≡ loose order a }
+{
+    !dominates(order, a, a)
+}
+
+fn is_tied(order: [u8; 16], a: u8, b: u8) -> bool
+    ensures { result ≡ tied order a b }
+{
+    dominates(order, a, b) & dominates(order, b, a) & (a != b)
+}
+
+fn is_broken(order: [u8; 16], a: u8, b: u8, c: u8) -> bool
+    ensures { result ≡ broken order a b c }
+{
+    dominates(order, a, b) & dominates(order, b, c) & !dominates(order, a, c)
+}
+
+// The 64 triples of levels are numbered in order.
+fn is_wrong_at(order: [u8; 16], n: u8) -> bool
+    requires { n < 64 }
+    ensures { result ≡ wrong_at order n }
+{
+    let a = n / 16;
+    let b = n / 4 % 4;
+    let c = n % 4;
+    is_large(order, a, b) | is_loose(order, a) | is_tied(order, a, b) | is_broken(order, a, b, c)
+}
+
+fn is_disordered(order: [u8; 16]) -> bool
+    ensures { result ≡ disordered order }
+{
+    for n in 0..64 {
+        if is_wrong_at(order, n) {
+            return true;
+        }
+    }
+    false
 }
 
 // The first check that applies: a wrong size, then a wrong level, then a wrong order.
@@ -110,8 +158,6 @@ fn furnish(levels: &[u8], order: [u8; 16], rule: Rule) -> House
     let items = all_rows(levels);
     let vacant = Place {
         standing: Standing::Free,
-        labels: 0,
-        count: 0,
         ticket: 0,
     };
     House {
@@ -123,8 +169,6 @@ fn furnish(levels: &[u8], order: [u8; 16], rule: Rule) -> House
         places: [vacant; 32],
         next: [1; 4],
         cells: [0; 2048],
-        saved: [0; 256],
-        counts: [0; 128],
     }
 }
 

@@ -1,18 +1,15 @@
 // The change that goes with a ruling, made of a house that is given and handed back. It is made for done requests only, and only
-// where a house has the level, the place, the item and the label that it names.
+// where a house has the level, the place and the item that it names.
 
 ghost use Rattle.std.specs.Prelude.{◌≡◌};
 ghost use Rattle.ruling.specs.Ruling.{fits, effect_if_fit};
 
-use checks::is_label;
 use house::{House, Mark};
-use labels::{forget, save};
-use marks::has_claimed;
-use parts::{active, certified, counted, gives_at, left_free, next_ticket};
-use returns::return_to;
+use parts::{active, certified, gives_at, left_free, next_ticket};
 use ruling::Change;
-use signals::signal_readers;
-use sweeps::{clear_cells, commit_items, convert_cells, drop_pending, lock_cell, mark_cell};
+use sweeps::{
+    clear_cells, commit_items, convert_cells, drop_pending, has_claimed, mark_cell, signal_readers,
+};
 
 fn is_fit(change: Change) -> bool
     ensures { result ≡ fits change }
@@ -24,8 +21,6 @@ fn is_fit(change: Change) -> bool
         Change::Write(me, i, _) => (me < 32) & (i < 64),
         Change::Certify(me) => me < 32,
         Change::End(me, _) => me < 32,
-        Change::Save(me, n) => (me < 32) & is_label(n as u32),
-        Change::Return(me, n) => (me < 32) & is_label(n as u32),
     }
 }
 
@@ -44,18 +39,10 @@ pub fn perform(h: House, change: Change) -> House
             h.places[me] = taken;
             h.next[l] = next_ticket(t);
         }
-        Change::Read(me, i) => {
-            let reader = h.places[me];
-            lock_cell(&mut h.cells, reader.labels, me, i);
-            let read = counted(reader);
-            h.places[me] = read;
-        }
+        Change::Read(me, i) => mark_cell(&mut h.cells, Mark::Read, me, i),
         Change::Write(me, i, value) => {
             mark_cell(&mut h.cells, Mark::Write, me, i);
             h.pending[i] = value;
-            let writer = h.places[me];
-            let wrote = counted(writer);
-            h.places[me] = wrote;
         }
         Change::Certify(me) => {
             // The order is lent where it lies, and the cells as a copy: the other way round every done request copies the house once more.
@@ -69,10 +56,6 @@ pub fn perform(h: House, change: Change) -> House
             h.places[me] = seat;
         }
         Change::End(me, commits) => {
-            let leaver = h.places[me];
-            if 0 < leaver.labels {
-                h = forget(h, me, 0);
-            }
             let claimed = has_claimed(&h.cells, me);
             if claimed & commits {
                 let items = h.items;
@@ -95,8 +78,6 @@ pub fn perform(h: House, change: Change) -> House
             let left = left_free();
             h.places[me] = left;
         }
-        Change::Save(me, n) => h = save(h, me, n),
-        Change::Return(me, n) => h = return_to(h, me, n),
     }
     h
 }

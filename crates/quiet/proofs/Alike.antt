@@ -18,7 +18,7 @@ pub level_alike : {k : ℕ} {h g : House} → Alike k h g → (i : ℕ) → (ite
 level_alike {k} {h} {g} A = same_level h g A.fixed
 
 pub alike_itself : (k : ℕ) (h : House) → Alike k h h
-alike_itself k h = record { fixed = refl; items = λ i a d. (refl, refl); saved = λ i n a N d. refl; places = λ p b d. refl; counts = λ p n b N d. refl; tickets = λ l b d. refl; cells = λ p i b a d. refl }
+alike_itself k h = record { fixed = refl; items = λ i a d. (refl, refl); places = λ p b d. refl; tickets = λ l b d. refl; cells = λ p i b a d. refl }
 
 pub alike_back : {k : ℕ} {h g : House} → Alike k h g → Alike k g h
 alike_back {k} {h} {g} A =
@@ -26,9 +26,7 @@ alike_back {k} {h} {g} A =
     record {
       fixed = sym A.fixed;
       items = λ i a d. let e = A.items i a (rw (o, level_alike A i) d) in (sym e.0, sym e.1);
-      saved = λ i n a N d. sym (A.saved i n a N (rw (o, level_alike A i) d));
       places = λ p b d. sym (A.places p b (rw o d));
-      counts = λ p n b N d. sym (A.counts p n b N (rw o d));
       tickets = λ l b d. sym (A.tickets l b (rw o d));
       cells = λ p i b a d. sym (A.cells p i b a (rw o d));
     }
@@ -39,9 +37,7 @@ alike_on A B =
     record {
       fixed = A.fixed ∙ B.fixed;
       items = λ i a d. let e = A.items i a d in let f = B.items i a (rw (o, level_alike A i) at d) in (e.0 ∙ f.0, e.1 ∙ f.1);
-      saved = λ i n a N d. A.saved i n a N d ∙ B.saved i n a N (rw (o, level_alike A i) at d);
       places = λ p b d. A.places p b d ∙ B.places p b (rw o at d);
-      counts = λ p n b N d. A.counts p n b N d ∙ B.counts p n b N (rw o at d);
       tickets = λ l b d. A.tickets l b d ∙ B.tickets l b (rw o at d);
       cells = λ p i b a d. A.cells p i b a d ∙ B.cells p i b a (rw o at d);
     }

@@ -17,9 +17,9 @@ use Rattle.house.specs.declared.Mark.TheVariants.{Read, Write, Certify, Signalle
 use Rattle.house.specs.declared.Request.{Request}
 use Rattle.house.specs.Search.{if_found, nobody}
 use Rattle.house.specs.Cell.{has, cell_at, holds, another_holds, is_signalled}
-use Rattle.house.specs.House.{vacant, dominates, level_of, item_at, place_at, is_label, free_at, is_active, is_certified, has_ticket, seek, vacancy}
+use Rattle.house.specs.House.{vacant, dominates, level_of, item_at, place_at, free_at, is_active, is_certified, has_ticket, seek, vacancy}
 use Rattle.house.specs.Checks.{foremost}
-use Rattle.house.specs.Rules.{begin, read, write, certify, commit, save, back, ◌does◌, asker, asking, uses_item, unknown, no_item, forbidden, stopped, untimely, labelless, no_label, worn_out, spent, crowded, ticketless, another_claims, peer_reads, hinders, wants, holder_on, conflict, holder, refusals}
+use Rattle.house.specs.Rules.{begin, read, write, certify, commit, ◌does◌, asker, uses_item, unknown, no_item, forbidden, stopped, untimely, worn_out, crowded, ticketless, another_claims, peer_reads, hinders, wants, holder_on, conflict, holder, refusals}
 use Rattle.house.proofs.Tests.{is, same, clash, refuted, and_true, or_false, or_right}
 use Rattle.house.proofs.Searches.{scan_same, round_same, first_same}
 use Rattle.house.proofs.Holders.{hinders_claims, holder_at}
@@ -97,10 +97,6 @@ module _ (k : ℕ) {h g : House} (A : Alike k h g) where
           either (At me) s = let w = (seek_at h.places q.level q.ticket me b s).within in e me w.place (rw w.level d)
           either Nobody s = refl
 
-      -- and its row is the same
-      asking_alike : asking h q ≡ asking g q
-      asking_alike = by_asker (place_at h.places) (place_at g.places) vacant A.places
-
       -- the tests, in the order of the checks
       unknown_alike : unknown h q ≡ unknown g q
       unfolding unknown
@@ -116,24 +112,13 @@ module _ (k : ℕ) {h g : House} (A : Alike k h g) where
 
       stopped_alike : stopped h q ≡ stopped g q
       unfolding stopped
-      stopped_alike = ap (λ s. (q does read || q does write || q does certify || q does commit || q does save) && s) (by_asker (is_signalled h.cells) (is_signalled g.cells) false signalled_alike)
+      stopped_alike = ap (λ s. (q does read || q does write || q does certify || q does commit) && s) (by_asker (is_signalled h.cells) (is_signalled g.cells) false signalled_alike)
 
       untimely_alike : untimely h q ≡ untimely g q
       unfolding untimely
       untimely_alike =
-          ap (λ x. cond (q does read || q does write || q does certify || q does save || q does back) (is_certified x.standing) (cond (q does commit) (is_active x.standing) false)) asking_alike
-
-      labelless_alike : labelless h q ≡ labelless g q
-      unfolding labelless
-      labelless_alike = ap (λ x. q does save && leb 4 x.labels) asking_alike
-
-      label_alike : no_label h q ≡ no_label g q
-      unfolding no_label
-      label_alike = ap (λ x. q does back && not (is_label q.value && leb q.value x.labels)) asking_alike
-
-      spent_alike : spent h q ≡ spent g q
-      unfolding spent
-      spent_alike = ap (λ x. uses_item q && leb 32 x.count) asking_alike
+          ap (λ s. cond (q does read || q does write || q does certify) (is_certified s) (cond (q does commit) (is_active s) false))
+          (by_asker (λ me. (place_at h.places me).standing) (λ me. (place_at g.places me).standing) vacant.standing (λ me m low. ap (λ x. x.standing) (A.places me m low)))
 
       worn_alike : no_item h q ≡ false → forbidden h q ≡ false → worn_out h q ≡ worn_out g q
       unfolding worn_out
@@ -163,13 +148,10 @@ module _ (k : ℕ) {h g : House} (A : Alike k h g) where
         (λ c8. check 15 refl
         (λ c15. check 2 (stopped_alike b)
         (λ c2. check 9 (untimely_alike b)
-        (λ c9. check 18 (labelless_alike b)
-        (λ c18. check 19 (label_alike b)
-        (λ c19. check 10 (worn_alike b c7 c8)
-        (λ c10. check 17 (spent_alike b)
-        (λ c17. check 11 (crowded_alike b)
+        (λ c9. check 10 (worn_alike b c7 c8)
+        (λ c10. check 11 (crowded_alike b)
         (λ c11. check 12 (ticketless_alike b)
-        (λ c12. none)))))))))))))))
+        (λ c12. none))))))))))))
 
     pub refusals_alike : foremost (refusals h q) ≡ foremost (refusals g q)
     refusals_alike = agreed refusals_agree

@@ -1,42 +1,39 @@
 -- Two houses that are alike for k answer a request of a level that k dominates alike, and stay alike: each effect looks only at what is
 -- alike.
 -- Assumes nothing.
-use Prim.Native.Nat.{ℕ, ◌+◌, ◌≤◌, ◌<◌}
+use Prim.Native.Nat.{ℕ, ◌≤◌, ◌<◌}
 use mathlib.Core.Path.{◌≡◌, refl, sym, ap, ap₂, ◌∙◌}
 use mathlib.Core.Logic.{◌≢◌, inl, inr}
 use mathlib.Core.Bool.{Bool, true, false, not, cond}
 use mathlib.Core.List.{List}
 use lib.ListN.{length}
-use lib.Dec.{eqb, ltb}
-use Rattle.house.specs.declared.Answer.TheVariants.{Refused, Delayed, Ticket, Signals, Label}
+use lib.Dec.{ltb}
+use Rattle.house.specs.declared.Answer.TheVariants.{Refused, Delayed, Ticket, Signals}
 use Rattle.house.specs.declared.Found.{Found}
 use Rattle.house.specs.declared.Found.TheVariants.{At, Nobody}
 use Rattle.house.specs.declared.House.{House}
 use Rattle.house.specs.declared.Mark.{Mark}
-use Rattle.house.specs.declared.Mark.TheVariants.{Write, Certify, Signalled}
+use Rattle.house.specs.declared.Mark.TheVariants.{Read, Write, Certify, Signalled}
 use Rattle.house.specs.declared.Outcome.{Outcome}
 use Rattle.house.specs.declared.Request.{Request}
 use Rattle.house.specs.declared.Standing.TheVariants.{Active}
 use Rattle.house.specs.Search.{if_found}
-use Rattle.house.specs.Cell.{has, marked, locked, cell_at, holds, first_signalled, count_signalled}
-use Rattle.house.specs.House.{fixed, dominates, level_of, item_at, pending_at, place_at, is_label, at_label, with_labels, vacancy}
+use Rattle.house.specs.Cell.{marked, cell_at, with_mark, holds, first_signalled, count_signalled}
+use Rattle.house.specs.House.{fixed, dominates, level_of, item_at, pending_at, place_at, vacancy}
 use Rattle.house.specs.Checks.{foremost}
-use Rattle.house.specs.Rules.{begin, read, write, certify, commit, abort, ask, save, back, ◌does◌, asker, uses_item, no_label, ticket_after, begun, counted, read_by, read_answer, read_for, written_by, wrote, signalled_cell, signalled, converted_cell, certified_by, forgets, dropped_pending, cleared_cell, left, committed_item, committed_by, aborted_by, saved_by, returned_cell, returned_pending, returned_by, ask_answer, replied, served, performed, holder, refusals, named, stepped}
-use Rattle.house.proofs.Operations.{is_begin, is_read, is_write, is_certify, is_commit, is_abort, is_ask, is_save, is_back}
-use Rattle.house.proofs.Tests.{is, same, clash, refuted, and_true, or_left, or_right, not_is}
+use Rattle.house.specs.Rules.{begin, read, write, certify, commit, abort, ◌does◌, asker, uses_item, ticket_after, begun, read_by, read_answer, read_for, written_by, wrote, signalled_cell, signalled, converted_cell, certified_by, dropped_pending, cleared_cell, left, committed_item, committed_by, aborted_by, ask_answer, replied, served, performed, holder, refusals, named, stepped}
+use Rattle.house.proofs.Tests.{same, and_true, or_left, or_right}
 use Rattle.house.proofs.Searches.{scan_same}
-use Rattle.house.proofs.Cells.{cell_here, cell_locked}
-use Rattle.house.proofs.Labels.{IsLabel, is_label_lem, label_is, noted_at_lem, forgotten_at_lem}
+use Rattle.house.proofs.Cells.{cell_here, cell_elsewhere}
 use Rattle.house.proofs.Checks.{Clear, clear, item_there}
 use Rattle.house.proofs.Steps.{refused_is, waits_is, free_is}
 use Rattle.house.proofs.Places.{seek_at, vacancy_at}
-use Rattle.house.proofs.Effects.{begun_place, begun_next, read_place, written_place, written_pending, signalled_long, signalled_cell_lem, certified_place, certified_cell, left_pending, left_place, left_cell, committed_item_lem, begun_place_other, begun_next_other, read_cell_other, read_place_other, written_cell_other, written_place_other, written_pending_other, certified_place_other, left_place_other, committed_fixed, saved_place, saved_place_other, returned_pending_lem, returned_place, returned_place_other, returned_cell_lem}
+use Rattle.house.proofs.Effects.{begun_place, begun_next, written_pending, signalled_long, signalled_cell_lem, certified_place, certified_cell, left_pending, left_place, left_cell, committed_item_lem, begun_place_other, begun_next_other, written_pending_other, certified_place_other, left_place_other, committed_fixed}
 use Rattle.reach.specs.Kept.{Kept}
-use Rattle.reach.proofs.Law.{held_write, Law, same_level}
-use Rattle.reach.proofs.Saves.{back_unwritten, return_other}
+use Rattle.reach.proofs.Law.{Law, same_level}
 use Rattle.reach.proofs.Kept.{kept_law}
 use Rattle.quiet.specs.Alike.{Alike, AnsweredAlike}
-use Rattle.quiet.proofs.Alike.{order_alike, rule_alike, level_alike}
+use Rattle.quiet.proofs.Alike.{order_alike, rule_alike}
 use Rattle.quiet.proofs.Numbers.{vacancy_alike, mark_alike, item_seen, asker_alike, refusals_alike, holder_alike, holder_seen}
 
 -- two outcomes: the same reply, and houses that are alike
@@ -67,9 +64,7 @@ module _ (k : ℕ) {h g : House} (L : Law h) (M : Law g) (A : Alike k h g) where
       record {
         fixed = A.fixed;
         items = A.items;
-        saved = A.saved;
-        counts = A.counts;
-        places = places_alike (begun h l me) (begun g l me) me (begun_place L.sizes l me m ∙ ap (λ n. record { standing = Active; labels = 0; count = 0; ticket = n }) t ∙ sym (begun_place M.sizes l me m)) (begun_place_other h l me) (begun_place_other g l me);
+        places = places_alike (begun h l me) (begun g l me) me (begun_place L.sizes l me m ∙ ap (λ n. record { standing = Active; ticket = n }) t ∙ sym (begun_place M.sizes l me m)) (begun_place_other h l me) (begun_place_other g l me);
         tickets = λ j c x.
             elim (same j l) [
               | inl e ↦ rw e (begun_next L.sizes l me b ∙ ap ticket_after t ∙ sym (begun_next M.sizes l me b))
@@ -83,35 +78,29 @@ module _ (k : ℕ) {h g : House} (L : Law h) (M : Law g) (A : Alike k h g) where
     mine : (n : Mark) (i : ℕ) → i < 64 → holds h.cells n me i ≡ holds g.cells n me i
     mine = mark_alike k A me m d
 
-    -- one of its cells changed, in the same way
-    cells_alike : (x y : List ℕ) (i : ℕ) → cell_at x me i ≡ cell_at y me i
-        → ((p j : ℕ) → j < 64 → (p ≡ me → j ≢ i) → cell_at x p j ≡ cell_at h.cells p j)
-        → ((p j : ℕ) → j < 64 → (p ≡ me → j ≢ i) → cell_at y p j ≡ cell_at g.cells p j)
-        → (p j : ℕ) → p < 32 → j < 64 → dominates h.order k (level_of p) ≡ true → cell_at x p j ≡ cell_at y p j
-    cells_alike x y i here there there' p j b c s =
+    -- one of its cells marked
+    cells_alike : (n : Mark) (i : ℕ) → i < 64 → (p j : ℕ) → p < 32 → j < 64 → dominates h.order k (level_of p) ≡ true → cell_at (with_mark n h.cells me i) p j ≡ cell_at (with_mark n g.cells me i) p j
+    cells_alike n i a p j b c x =
         elim (same p me) [
-          | inl e ↦ elim (same j i) [ inl f ↦ rw (e, f) here | inr f ↦ elsewhere (λ z. f) ]
+          | inl e ↦ elim (same j i) [
+            | inl f ↦ rw (e, f) (cell_here h.cells L.sizes.cells n me i m a ∙ ap (marked n) (A.cells me i m a d) ∙ sym (cell_here g.cells M.sizes.cells n me i m a))
+            | inr f ↦ elsewhere (λ z. f)
+          ]
           | inr e ↦ elsewhere (λ z. absurd (e z))
         ]
       where
-        elsewhere : (p ≡ me → j ≢ i) → cell_at x p j ≡ cell_at y p j
-        elsewhere f = there p j c f ∙ A.cells p j b c s ∙ sym (there' p j c f)
+        elsewhere : (p ≡ me → j ≢ i) → cell_at (with_mark n h.cells me i) p j ≡ cell_at (with_mark n g.cells me i) p j
+        elsewhere f = cell_elsewhere n h.cells me i p j a c f ∙ A.cells p j b c x ∙ sym (cell_elsewhere n g.cells me i p j a c f)
 
     read_alike : (i : ℕ) → i < 64 → Alike k (read_by h me i) (read_by g me i)
     unfolding fixed read_by
     read_alike i a =
-        let e = A.places me m d in
         record {
           fixed = A.fixed;
           items = A.items;
-          saved = A.saved;
-          places = places_alike (read_by h me i) (read_by g me i) me (read_place L.sizes me i m ∙ ap counted e ∙ sym (read_place M.sizes me i m)) (read_place_other h me i) (read_place_other g me i);
-          counts = A.counts;
+          places = A.places;
           tickets = A.tickets;
-          cells =
-              cells_alike (read_by h me i).cells (read_by g me i).cells i
-              (cell_locked h.cells L.sizes.cells _ me i m a ∙ ap₂ locked (ap (λ x. x.labels) e) (A.cells me i m a d) ∙ sym (cell_locked g.cells M.sizes.cells _ me i m a))
-              (λ p j c f. read_cell_other h me i p j a c f) (λ p j c f. read_cell_other g me i p j a c f);
+          cells = cells_alike Read i a;
         }
 
     write_alike : (i v : ℕ) → i < 64 → Alike k (written_by h me i v) (written_by g me i v)
@@ -126,24 +115,15 @@ module _ (k : ℕ) {h g : House} (L : Law h) (M : Law g) (A : Alike k h g) where
               | inr n ↦ written_pending_other h me i v j n ∙ y.1 ∙ sym (written_pending_other g me i v j n)
             ],
           );
-          saved = A.saved;
-          places = places_alike (written_by h me i v) (written_by g me i v) me (written_place L.sizes me i v m ∙ ap counted (A.places me m d) ∙ sym (written_place M.sizes me i v m)) (written_place_other h me i v) (written_place_other g me i v);
-          counts = A.counts;
+          places = A.places;
           tickets = A.tickets;
-          cells =
-              cells_alike (written_by h me i v).cells (written_by g me i v).cells i
-              (cell_here h.cells L.sizes.cells Write me i m a ∙ ap (marked Write) (A.cells me i m a d) ∙ sym (cell_here g.cells M.sizes.cells Write me i m a))
-              (λ p j c f. written_cell_other h me i v p j a c f) (λ p j c f. written_cell_other g me i v p j a c f);
+          cells = cells_alike Write i a;
         }
 
     -- what it wrote, it wrote in both, so its signals are alike
-    wrote_alike : (i : ℕ) → i < 64 → wrote h.cells me i ≡ wrote g.cells me i
-    unfolding wrote
-    wrote_alike i a = rw (mine Write i a, mine Certify i a)
-
     signal_alike : (n p i : ℕ) → p < 32 → i < 64 → dominates h.order k (level_of p) ≡ true → cell_at (signalled n h me) p i ≡ cell_at (signalled n g me) p i
-    unfolding signalled_cell
-    signal_alike n p i b a x = signalled_cell_lem L.sizes n me p i b a ∙ rw (A.cells p i b a x, wrote_alike i a, order_alike A, rule_alike A) (sym (signalled_cell_lem M.sizes n me p i b a))
+    unfolding signalled_cell wrote
+    signal_alike n p i b a x = signalled_cell_lem L.sizes n me p i b a ∙ rw (A.cells p i b a x, mine Write i a, mine Certify i a, order_alike A, rule_alike A) (sym (signalled_cell_lem M.sizes n me p i b a))
 
     certify_alike : Alike k (certified_by h me) (certified_by g me)
     unfolding fixed certified_by
@@ -151,41 +131,23 @@ module _ (k : ℕ) {h g : House} (L : Law h) (M : Law g) (A : Alike k h g) where
         record {
           fixed = A.fixed;
           items = A.items;
-          saved = A.saved;
-          counts = A.counts;
           places = places_alike (certified_by h me) (certified_by g me) me (certified_place L.sizes me m ∙ rw (A.places me m d) (sym (certified_place M.sizes me m))) (certified_place_other h me) (certified_place_other g me);
           tickets = A.tickets;
           cells = λ p i b a x. certified_cell L.sizes me p i b a ∙ ap (converted_cell me p i) (signal_alike certify p i b a x) ∙ sym (certified_cell M.sizes me p i b a);
         }
 
-    -- what it forgets, it forgets in both
-    module _ (n : ℕ) where
-      saved_alike : (i j : ℕ) → i < 64 → IsLabel j → at_label h.saved i j ≡ at_label g.saved i j → at_label (forgets h me n).saved i j ≡ at_label (forgets g me n).saved i j
-      unfolding forgets
-      saved_alike i j a J e =
-          forgotten_at_lem h.saved 64 L.sizes.saved i j a J (wrote h.cells me) n _
-          ∙ rw (wrote_alike i a, A.places me m d, e) (sym (forgotten_at_lem g.saved 64 M.sizes.saved i j a J (wrote g.cells me) n _))
-
-      counts_alike : (p j : ℕ) → p < 32 → is_label j ≡ true → dominates h.order k (level_of p) ≡ true → at_label (forgets h me n).counts p j ≡ at_label (forgets g me n).counts p j
-      unfolding forgets
-      counts_alike p j b J x =
-          forgotten_at_lem h.counts 32 L.sizes.counts p j b (is_label_lem j J) (eqb me) n _
-          ∙ rw (A.places me m d, A.counts p j b J x) (sym (forgotten_at_lem g.counts 32 M.sizes.counts p j b (is_label_lem j J) (eqb me) n _))
-
     -- the place is left, with cells that are alike
     module _ (x y : List ℕ) (long : length x ≡ 2048) (long' : length y ≡ 2048) (seen : (p i : ℕ) → p < 32 → i < 64 → dominates h.order k (level_of p) ≡ true → cell_at x p i ≡ cell_at y p i) where
       dropped_alike : (i : ℕ) → i < 64 → pending_at h.pending i ≡ pending_at g.pending i → pending_at (left x h me).pending i ≡ pending_at (left y g me).pending i
-      unfolding dropped_pending
-      dropped_alike i a e = left_pending L.sizes x me i a ∙ rw (wrote_alike i a, e) (sym (left_pending M.sizes y me i a))
+      unfolding dropped_pending wrote
+      dropped_alike i a e = left_pending L.sizes x me i a ∙ rw (mine Write i a, mine Certify i a, e) (sym (left_pending M.sizes y me i a))
 
       left_alike : Alike k (left x h me) (left y g me)
-      unfolding fixed left forgets
+      unfolding fixed left
       left_alike =
           record {
             fixed = A.fixed;
             items = λ i a s. let e = A.items i a s in (e.0, dropped_alike i a e.1);
-            saved = λ i j a J s. saved_alike 0 i j a (is_label_lem j J) (A.saved i j a J s);
-            counts = counts_alike 0;
             places = places_alike (left x h me) (left y g me) me (left_place L.sizes x me m ∙ sym (left_place M.sizes y me m)) (left_place_other h x me) (left_place_other g y me);
             tickets = A.tickets;
             cells = λ p i b a s. left_cell L.sizes x me long p i b a ∙ ap (cleared_cell me p i) (seen p i b a s) ∙ sym (left_cell M.sizes y me long' p i b a);
@@ -196,7 +158,7 @@ module _ (k : ℕ) {h g : House} (L : Law h) (M : Law g) (A : Alike k h g) where
 
     -- a commit is an abort, but for the signals and the rows that it holds certify on
     commit_alike : Alike k (committed_by h me) (committed_by g me)
-    unfolding committed_item left forgets
+    unfolding committed_item left
     commit_alike =
         let x = signalled commit h me in
         let y = signalled commit g me in
@@ -207,63 +169,9 @@ module _ (k : ℕ) {h g : House} (L : Law h) (M : Law g) (A : Alike k h g) where
             committed_item_lem L.sizes me i a ∙ rw (mine Certify i a, e.0, e.1) (sym (committed_item_lem M.sizes me i a)),
             (B.items i a low).1,
           );
-          saved = λ i j a J s. B.saved i j a J (rw (same_level (committed_by h me) h (committed_fixed h me) i) at s);
           places = B.places;
-          counts = B.counts;
           tickets = B.tickets;
           cells = B.cells;
-        }
-
-    -- Save
-    save_alike : (n : ℕ) → Alike k (saved_by h me n) (saved_by g me n)
-    unfolding fixed saved_by
-    save_alike n =
-        let e = A.places me m d in
-        record {
-          fixed = A.fixed;
-          items = A.items;
-          saved = λ i j a J s.
-              noted_at_lem h.saved 64 L.sizes.saved i j a (is_label_lem j J) (wrote h.cells me) (pending_at h.pending) n
-              ∙ rw (wrote_alike i a, (A.items i a s).1, A.saved i j a J s) (sym (noted_at_lem g.saved 64 M.sizes.saved i j a (is_label_lem j J) (wrote g.cells me) (pending_at g.pending) n));
-          places = places_alike (saved_by h me n) (saved_by g me n) me (saved_place L.sizes me n m ∙ ap (λ x. with_labels x n x.count) e ∙ sym (saved_place M.sizes me n m)) (saved_place_other h me n) (saved_place_other g me n);
-          counts = λ p j b J s.
-              noted_at_lem h.counts 32 L.sizes.counts p j b (is_label_lem j J) (eqb me) _ n
-              ∙ rw (e, A.counts p j b J s) (sym (noted_at_lem g.counts 32 M.sizes.counts p j b (is_label_lem j J) (eqb me) _ n));
-          tickets = A.tickets;
-          cells = A.cells;
-        }
-
-    -- Return: what is saved of items that k does not dominate is not looked at, as it has no write lock there
-    no_write : {f : House} → Law f → (i : ℕ) → i < 64 → dominates h.order k (item_at f.items i).level ≡ false → has Write (cell_at f.cells me i) ≡ false
-    no_write F i a s = refuted _ (λ w. clash d (rw ((F.cells me i m a).owned (held_write _ w)) at s))
-
-    back_alike : (n i : ℕ) → i < 64 → IsLabel n → returned_cell h.saved me n me i (cell_at h.cells me i) ≡ returned_cell g.saved me n me i (cell_at g.cells me i)
-    unfolding returned_cell
-    back_alike n i a N =
-        let e = A.cells me i m a d in
-        elim (is (dominates h.order k (item_at h.items i).level)) [
-          | inl s ↦ rw (e, A.saved i n a (label_is n N) s)
-          | inr s ↦ back_unwritten h.saved me n i _ (no_write L i a s) ∙ rw e (sym (back_unwritten g.saved me n i _ (no_write M i a (rw (level_alike A i) at s))))
-        ]
-
-    return_alike : (n : ℕ) → IsLabel n → Alike k (returned_by h me n) (returned_by g me n)
-    unfolding fixed returned_by forgets returned_pending
-    return_alike n N =
-        record {
-          fixed = A.fixed;
-          items = λ i a s. let e = A.items i a s in (
-            e.0,
-            returned_pending_lem L.sizes me n i a ∙ rw (wrote_alike i a, A.saved i n a (label_is n N) s, e.1) (sym (returned_pending_lem M.sizes me n i a)),
-          );
-          saved = λ i j a J s. saved_alike n i j a (is_label_lem j J) (A.saved i j a J s);
-          places = places_alike (returned_by h me n) (returned_by g me n) me (returned_place L.sizes me n m ∙ ap₂ (λ x c. with_labels x n c) (A.places me m d) (A.counts me n m (label_is n N) d) ∙ sym (returned_place M.sizes me n m)) (returned_place_other h me n) (returned_place_other g me n);
-          counts = counts_alike n;
-          tickets = A.tickets;
-          cells = λ p i b a s.
-              elim (same p me) [
-                | inl x ↦ rw x (returned_cell_lem L.sizes me n me i m a ∙ back_alike n i a N ∙ sym (returned_cell_lem M.sizes me n me i m a))
-                | inr x ↦ return_other L.sizes me n p i b a x ∙ A.cells p i b a s ∙ sym (return_other M.sizes me n p i b a x)
-              ];
         }
 
     -- what a read and an ask are answered
@@ -280,36 +188,15 @@ module _ (k : ℕ) {h g : House} (L : Law h) (M : Law g) (A : Alike k h g) where
 
   -- a request that no refusal meets
   module _ (four : k < 4) (K : Kept h) (J : Kept g) (q : Request) (d : dominates h.order k q.level ≡ true) (c : Clear h q) where
-    -- a return that no refusal meets names a label
-    back_label : q.operation ≡ back → IsLabel q.value
-    unfolding no_label
-    back_label o = is_label_lem q.value (and_true (is_label q.value) _ (not_is _ (rw o at c.labelled))).0
-
-    -- what is none of the others is a return
-    last_is_back : q does begin ≡ false → q does read ≡ false → q does write ≡ false → q does certify ≡ false → q does commit ≡ false → q does abort ≡ false → q does ask ≡ false → q does save ≡ false → q.operation ≡ back
-    last_is_back n0 n1 n2 n3 n4 n5 n6 n7 = elim c.operation [
-      | is_begin o ↦ clash (rw o) n0
-      | is_read o ↦ clash (rw o) n1
-      | is_write o ↦ clash (rw o) n2
-      | is_certify o ↦ clash (rw o) n3
-      | is_commit o ↦ clash (rw o) n4
-      | is_abort o ↦ clash (rw o) n5
-      | is_ask o ↦ clash (rw o) n6
-      | is_save o ↦ clash (rw o) n7
-      | is_back o ↦ o
-    ]
-
-    served_alike : q does begin ≡ false → (me : ℕ) → me < 32 → dominates h.order k (level_of me) ≡ true → Answers k (served h q me) (served g q me)
+    served_alike : (me : ℕ) → me < 32 → dominates h.order k (level_of me) ≡ true → Answers k (served h q me) (served g q me)
     unfolding served
-    served_alike n0 me m low =
+    served_alike me m low =
         choose k (q does read) _ _ _ _ (λ r. let u = or_left (q does read) (q does write) r in (ap (replied q) (pair_alike me m low q.item (row u) (item_seen k A four K q d u c.allowed)), read_alike me m low q.item (row u)))
         (λ n1. choose k (q does write) _ _ _ _ (λ w. (refl, write_alike me m low q.item q.value (row (or_right (q does read) (q does write) w))))
         (λ n2. choose k (q does certify) _ _ _ _ (λ e. (refl, certify_alike me m low))
         (λ n3. choose k (q does commit) _ _ _ _ (λ e. (refl, commit_alike me m low))
         (λ n4. choose k (q does abort) _ _ _ _ (λ e. (refl, abort_alike me m low))
-        (λ n5. choose k (q does ask) _ _ _ _ (λ e. (ap (replied q) (signals_alike me m low), A))
-        (λ n6. choose k (q does save) _ _ _ _ (λ e. let n = ap (λ x. x.labels + 1) (A.places me m low) in (ap (λ l. replied q (Label l)) n, rw (← n) (save_alike me m low ((place_at h.places me).labels + 1))))
-        (λ n7. (refl, return_alike me m low q.value (back_label (last_is_back n0 n1 n2 n3 n4 n5 n6 n7))))))))))
+        (λ n5. (ap (replied q) (signals_alike me m low), A))))))
       where
         row : uses_item q ≡ true → q.item < 64
         row u = (item_there h q u c.present).1
@@ -321,7 +208,7 @@ module _ (k : ℕ) {h g : House} (L : Law h) (M : Law g) (A : Alike k h g) where
         rw (← vacancy_alike k A q.level b d, ← asker_alike k A four K q d b)
         (choose k (q does begin) _ _ _ _
         (λ e. if_found_lem k (vacancy h.places q.level) _ _ _ _ (λ me f. let w = (vacancy_at h.places q.level me b f).within in (ap (λ t. replied q (Ticket t)) (A.tickets q.level b d), begin_alike q.level me b w.place d)) (refl, A))
-        (λ e. if_found_lem k (asker h q) _ _ _ _ (λ me f. let w = (seek_at h.places q.level q.ticket me b f).within in served_alike e me w.place (rw w.level d)) (refl, A)))
+        (λ e. if_found_lem k (asker h q) _ _ _ _ (λ me f. let w = (seek_at h.places q.level q.ticket me b f).within in served_alike me w.place (rw w.level d)) (refl, A)))
 
     -- whoever holds what is asked for is at a level that k dominates, so it has one name
     named_alike : (p : ℕ) → holder h q ≡ At p → named h p ≡ named g p

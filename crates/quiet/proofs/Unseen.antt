@@ -1,8 +1,8 @@
--- A request that is struck changes nothing of the levels that k dominates: it touches no place, no count and no cell but of its own level and of
+-- A request that is struck changes nothing of the levels that k dominates: it touches no place and no cell but of its own level and of
 -- levels above it (reach, Beside), and no item and no ticket but of its own level; and whoever is above what k does not dominate, k does
 -- not dominate either.
 -- Assumes nothing.
-use Prim.Native.Nat.{ℕ, ◌+◌, ◌<◌}
+use Prim.Native.Nat.{ℕ, ◌<◌}
 use native.Mathlib.Omega.{arith}
 use mathlib.Core.Path.{◌≡◌, refl, sym}
 use mathlib.Core.Logic.{◌≢◌}
@@ -12,17 +12,15 @@ use Rattle.house.specs.declared.House.{House}
 use Rattle.house.specs.declared.Outcome.{Outcome}
 use Rattle.house.specs.declared.Request.{Request}
 use Rattle.house.specs.Cell.{cell_at}
-use Rattle.house.specs.House.{dominates, above, level_of, item_at, pending_at, place_at, at_label, next_at}
-use Rattle.house.specs.Rules.{commit, begun, read_by, written_by, signalled, certified_by, forgets, left, committed_by, aborted_by, saved_by, returned_by}
+use Rattle.house.specs.House.{dominates, above, level_of, item_at, pending_at, next_at}
+use Rattle.house.specs.Rules.{commit, begun, read_by, written_by, signalled, certified_by, left, committed_by, aborted_by}
 use Rattle.house.proofs.Tests.{clash, refuted, and_true, and_intro, not_of}
 use Rattle.house.proofs.Levels.{dominated_low, dominates_on}
-use Rattle.house.proofs.Labels.{IsLabel, is_label_lem}
 use Rattle.house.proofs.Effects.{begun_next_other, written_pending_other}
 use Rattle.reach.specs.Kept.{Kept}
 use Rattle.reach.proofs.Law.{held, held_neither, Law}
-use Rattle.reach.proofs.Turns.{MayBegin, MayWrite, MaySave, MayReturn, Turn, refused, waits, begins, reads, writes, certifies, commits, aborts, asks, saves, returns, turn}
-use Rattle.reach.proofs.Changes.{forgets_unheld, left_stays, committed_row}
-use Rattle.reach.proofs.Saves.{save_unheld, return_unheld, return_unsaved}
+use Rattle.reach.proofs.Turns.{MayBegin, MayWrite, Turn, refused, waits, begins, reads, writes, certifies, commits, aborts, asks, turn}
+use Rattle.reach.proofs.Changes.{left_stays, committed_row}
 use Rattle.reach.proofs.Kept.{kept_law}
 use Rattle.reach.proofs.Answers.{fixed_stays}
 use Rattle.reach.proofs.Beside.{reaches_up}
@@ -31,70 +29,48 @@ use Rattle.quiet.specs.Alike.{stays, StruckUnseen}
 -- what a change by level l leaves as it was: items and next tickets of other levels
 record Spares (h h' : House) (l : ℕ) : Type 0 where
   items : (i : ℕ) → i < 64 → (item_at h.items i).level ≢ l → (item_at h'.items i ≡ item_at h.items i) × (pending_at h'.pending i ≡ pending_at h.pending i)
-  saved : (i n : ℕ) → i < 64 → IsLabel n → (item_at h.items i).level ≢ l → at_label h'.saved i n ≡ at_label h.saved i n
   tickets : (j : ℕ) → j < 4 → j ≢ l → next_at h'.next j ≡ next_at h.next j
 
--- so does a change that leaves all items, pending and saved values and next tickets
-spares_all : {h h' : House} {l : ℕ} → h'.items ≡ h.items → h'.pending ≡ h.pending → h'.saved ≡ h.saved → h'.next ≡ h.next → Spares h h' l
-spares_all x y s z = record { items = λ i a n. (rw x, rw y); saved = λ i n a N d. rw s; tickets = λ j b n. rw z }
+-- so does a change that leaves all items, pending values and next tickets
+spares_all : {h h' : House} {l : ℕ} → h'.items ≡ h.items → h'.pending ≡ h.pending → h'.next ≡ h.next → Spares h h' l
+spares_all x y z = record { items = λ i a n. (rw x, rw y); tickets = λ j b n. rw z }
 
 module _ {h : House} (L : Law h) where
   begin_spares : {l me : ℕ} → MayBegin h l me → Spares h (begun h l me) l
   unfolding begun
-  begin_spares {l} {me} K = record { items = λ i a n. (refl, refl); saved = λ i n a N d. refl; tickets = λ j b n. begun_next_other h l me j n }
+  begin_spares {l} {me} K = record { items = λ i a n. (refl, refl); tickets = λ j b n. begun_next_other h l me j n }
 
   write_spares : {me i v : ℕ} → MayWrite h me i v → Spares h (written_by h me i v) (level_of me)
   unfolding written_by
-  write_spares {me} {i} {v} K = record { items = λ j a n. (refl, written_pending_other h me i v j (λ e. n (rw e K.mine))); saved = λ j n a N d. refl; tickets = λ j b n. refl }
+  write_spares {me} {i} {v} K = record { items = λ j a n. (refl, written_pending_other h me i v j (λ e. n (rw e K.mine))); tickets = λ j b n. refl }
 
   -- an item of another level I have not written
   unwritten : {me : ℕ} → me < 32 → (i : ℕ) → i < 64 → (item_at h.items i).level ≢ level_of me → held (cell_at h.cells me i) ≡ false
   unwritten {me} m i a n = refuted _ (λ y. n ((L.cells me i m a).owned y))
 
   abort_spares : {me : ℕ} → me < 32 → Spares h (aborted_by h me) (level_of me)
-  unfolding left forgets
-  abort_spares {me} m =
-      record {
-        items = λ i a n. (refl, left_stays L.sizes h.cells me i a (unwritten m i a n));
-        saved = λ i n a N d. forgets_unheld L me 0 i n a N (unwritten m i a d);
-        tickets = λ j b n. refl;
-      }
+  unfolding left
+  abort_spares {me} m = record { items = λ i a n. (refl, left_stays L.sizes h.cells me i a (unwritten m i a n)); tickets = λ j b n. refl }
 
   commit_spares : {me : ℕ} → me < 32 → Spares h (committed_by h me) (level_of me)
-  unfolding left forgets
+  unfolding left
   commit_spares {me} m =
       record {
         items = λ i a n. let none = unwritten m i a n in (committed_row L m i a (held_neither _ none).1, left_stays L.sizes (signalled commit h me) me i a none);
-        saved = λ i n a N d. forgets_unheld L me 0 i n a N (unwritten m i a d);
         tickets = λ j b n. refl;
-      }
-
-  save_spares : {me : ℕ} (n : ℕ) (K : MaySave h me) → (place_at h.places me).labels + 1 ≡ n → Spares h (saved_by h me n) (level_of me)
-  unfolding saved_by
-  save_spares n K next = record { items = λ i a d. (refl, refl); saved = λ i k a N d. save_unheld n L K next i a k N (unwritten K.place i a d); tickets = λ j b d. refl }
-
-  return_spares : {me n : ℕ} → MayReturn h me n → Spares h (returned_by h me n) (level_of me)
-  unfolding returned_by forgets
-  return_spares K =
-      record {
-        items = λ i a d. (refl, return_unheld L K i a (unwritten K.place i a d));
-        saved = λ i k a N d. return_unsaved L K i a k N (unwritten K.place i a d);
-        tickets = λ j b d. refl;
       }
 
   turn_spares : {q : Request} {o : Outcome} → Turn h q o → Spares h o.house q.level
   unfolding read_by certified_by
-  turn_spares (refused n) = spares_all refl refl refl refl
-  turn_spares (waits p z e) = spares_all refl refl refl refl
+  turn_spares (refused n) = spares_all refl refl refl
+  turn_spares (waits p z e) = spares_all refl refl refl
   turn_spares (begins me o K) = begin_spares K
-  turn_spares (reads me o A K) = spares_all refl refl refl refl
+  turn_spares (reads me o A K) = spares_all refl refl refl
   turn_spares (writes me o A K) = rw (← A.seated.within.level) (write_spares K)
-  turn_spares (certifies me o A K) = spares_all refl refl refl refl
+  turn_spares (certifies me o A K) = spares_all refl refl refl
   turn_spares (commits me o A K) = rw (← A.seated.within.level) (commit_spares K.place)
   turn_spares (aborts me o A) = rw (← A.seated.within.level) (abort_spares A.seated.within.place)
-  turn_spares (asks me o A) = spares_all refl refl refl refl
-  turn_spares (saves me o A K) = rw (← A.seated.within.level) (save_spares _ K refl)
-  turn_spares (returns me o A K) = rw (← A.seated.within.level) (return_spares K)
+  turn_spares (asks me o A) = spares_all refl refl refl
 
 -- a level byte above 3 is dominated by none: the table has four rows
 struck_hidden : {h : House} → Kept h → (k : ℕ) (q : Request) → stays h.order k q ≡ false → dominates h.order k q.level ≡ false
@@ -111,11 +87,9 @@ struck_unseen k b h K q d =
     record {
       fixed = sym (fixed_stays h q);
       items = λ i a x. let e = S.items i a (other _ x) in (sym e.0, sym e.1);
-      saved = λ i n a N x. sym (S.saved i n a (is_label_lem n N) (other _ x));
       places = λ p c x. sym (reaches_up h K.sizes q p c (other _ x) (not_above p x)).0;
-      counts = λ p n c N x. sym ((reaches_up h K.sizes q p c (other _ x) (not_above p x)).1 n N);
       tickets = λ l c x. sym (S.tickets l c (other _ x));
-      cells = λ p i c a x. sym ((reaches_up h K.sizes q p c (other _ x) (not_above p x)).2 i a);
+      cells = λ p i c a x. sym ((reaches_up h K.sizes q p c (other _ x) (not_above p x)).1 i a);
     }
   where
     other : (l : ℕ) → dominates h.order k l ≡ true → l ≢ q.level

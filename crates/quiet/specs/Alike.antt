@@ -5,7 +5,7 @@ use Rattle.std.specs.Prelude.{ℕ, ◌<◌, ◌≡◌, Bool, true, false, ◌&&�
 use Rattle.house.specs.declared.House.{House}
 use Rattle.house.specs.declared.Request.{Request}
 use Rattle.house.specs.Cell.{cell_at}
-use Rattle.house.specs.House.{fixed, dominates, level_of, item_at, pending_at, place_at, is_label, at_label, next_at}
+use Rattle.house.specs.House.{fixed, dominates, level_of, item_at, pending_at, place_at, next_at}
 use Rattle.house.specs.Rules.{stepped}
 use Rattle.reach.specs.Kept.{Kept}
 
@@ -16,17 +16,14 @@ covers order k l = not (ltb 3 l) && dominates order k l
 abbrev pub stays : List ℕ → ℕ → Request → Bool
 stays order k q = covers order k q.level
 
--- the same are "the items, places, tickets and places' cells of" "the levels k dominates" (CR 6). Items are i < 64 and places p < 32,
--- and a label n is one of 1 to 4
+-- the same are "the items, places, tickets and places' cells of" "the levels k dominates" (CR 6). Items are i < 64 and places p < 32
 pub record Alike (k : ℕ) (h g : House) : Type 0 where
   -- what the opening fixed: how many items there are, the level of each, which levels dominate which, and the rule
   pub fixed : fixed h ≡ fixed g
-  -- the items: row, pending value, and what is saved at each label
+  -- the items: row and pending value
   pub items : (i : ℕ) → i < 64 → dominates h.order k (item_at h.items i).level ≡ true → (item_at h.items i ≡ item_at g.items i) × (pending_at h.pending i ≡ pending_at g.pending i)
-  pub saved : (i n : ℕ) → i < 64 → is_label n ≡ true → dominates h.order k (item_at h.items i).level ≡ true → at_label h.saved i n ≡ at_label g.saved i n
-  -- the places: who stands there, with which ticket, with how many labels and which count, and the count at each label
+  -- the places: who stands there, with which ticket
   pub places : (p : ℕ) → p < 32 → dominates h.order k (level_of p) ≡ true → place_at h.places p ≡ place_at g.places p
-  pub counts : (p n : ℕ) → p < 32 → is_label n ≡ true → dominates h.order k (level_of p) ≡ true → at_label h.counts p n ≡ at_label g.counts p n
   -- the tickets: the next one of each level
   pub tickets : (l : ℕ) → l < 4 → dominates h.order k l ≡ true → next_at h.next l ≡ next_at g.next l
   -- the places' cells, of every item

@@ -18,9 +18,9 @@ use Rattle.house.proofs.Tests.{is, clash}
 use Rattle.house.proofs.Places.{zero_nowhere}
 use Rattle.house.proofs.Checks.{none_applies, none_given, first_given, level_there, clear, passes, asker_known, foremost_stands}
 use Rattle.house.proofs.Steps.{unserved_is, done_is}
-use Rattle.house.proofs.Effects.{begun_fixed, read_fixed, written_fixed, certified_fixed, committed_fixed, aborted_fixed, saved_fixed, returned_fixed}
+use Rattle.house.proofs.Effects.{begun_fixed, read_fixed, written_fixed, certified_fixed, committed_fixed, aborted_fixed}
 use Rattle.reach.specs.Answers.{Stranger, TurnedDown, RefusalKeeps, FirstGiven, DoneExactly, OrderStands, NumberStands, FixedStays, StrangerRefused, ZeroRefused, StrangerGetsSix, ZeroGetsSix, ZeroNamesNobody}
-use Rattle.reach.proofs.Turns.{Asker, found, Turn, refused, waits, begins, reads, writes, certifies, commits, aborts, asks, saves, returns, turn}
+use Rattle.reach.proofs.Turns.{Asker, found, Turn, refused, waits, begins, reads, writes, certifies, commits, aborts, asks, turn}
 use Rattle.reach.proofs.Opened.{reachable_has}
 use Rattle.reach.proofs.Guards.{number}
 
@@ -60,8 +60,6 @@ turn_fixed {h} (certifies me o A K) = certified_fixed h me
 turn_fixed {h} (commits me o A K) = committed_fixed h me
 turn_fixed {h} (aborts me o A) = aborted_fixed h me
 turn_fixed (asks me o A) = refl
-turn_fixed {h} (saves me o A K) = saved_fixed h me _
-turn_fixed {h} {q} (returns me o A K) = returned_fixed h me q.value
 
 pub fixed_stays : FixedStays
 fixed_stays h q = turn_fixed (turn h q)

@@ -9,14 +9,12 @@ use Rattle.house.specs.declared.House.{House}
 use Rattle.house.specs.declared.Outcome.{Outcome}
 use Rattle.house.specs.declared.Request.{Request}
 use Rattle.house.specs.Cell.{cell_at}
-use Rattle.house.specs.House.{Sizes, dominates, above, level_of, item_at, place_at, is_label, at_label}
-use Rattle.house.specs.Rules.{read, certify, commit, begun, read_by, written_by, signalled, certified_by, left, committed_by, aborted_by, saved_by, returned_by}
-use Rattle.house.proofs.Effects.{signalled_long, begun_place_other, read_cell_other, read_place_other, written_cell_other, written_place_other, certified_place_other, left_place_other, saved_place_other, returned_place_other}
-use Rattle.house.proofs.Labels.{is_label_lem}
+use Rattle.house.specs.House.{Sizes, dominates, above, level_of, item_at, place_at}
+use Rattle.house.specs.Rules.{read, certify, commit, begun, read_by, written_by, signalled, certified_by, committed_by, aborted_by}
+use Rattle.house.proofs.Effects.{signalled_long, begun_place_other, read_cell_other, written_cell_other, certified_place_other, left_place_other}
 use Rattle.reach.specs.Beside.{ReadsBelow, ReachesUp}
-use Rattle.reach.proofs.Turns.{Turn, refused, waits, begins, reads, writes, certifies, commits, aborts, asks, saves, returns, turn}
-use Rattle.reach.proofs.Changes.{signal_passes, certify_other, forgets_counts, left_other}
-use Rattle.reach.proofs.Saves.{noted_counts, return_other}
+use Rattle.reach.proofs.Turns.{Turn, refused, waits, begins, reads, writes, certifies, commits, aborts, asks, turn}
+use Rattle.reach.proofs.Changes.{signal_passes, certify_other, left_other}
 
 turn_below : {h : House} {q : Request} {o : Outcome} → q.operation ≡ read → o.reply.number ≡ 0 → Turn h q o → dominates h.order q.level (item_at h.items q.item).level ≡ true
 turn_below o z (refused n) = absurd (n z)
@@ -28,58 +26,40 @@ turn_below o z (certifies me e A K) = absurd (omega arith)
 turn_below o z (commits me e A K) = absurd (omega arith)
 turn_below o z (aborts me e A) = absurd (omega arith)
 turn_below o z (asks me e A) = absurd (omega arith)
-turn_below o z (saves me e A K) = absurd (omega arith)
-turn_below o z (returns me e A K) = absurd (omega arith)
 
 pub reads_below : ReadsBelow
 reads_below h q o z = turn_below o z (turn h q)
 
--- place p, its counts and its cells are as they were
+-- place p and its cells are as they were
 abbrev Stays : House → House → ℕ → Type 0
-Stays h h' p =
-    (place_at h'.places p ≡ place_at h.places p) × ((n : ℕ) → is_label n ≡ true → at_label h'.counts p n ≡ at_label h.counts p n)
-    × ((i : ℕ) → i < 64 → cell_at h'.cells p i ≡ cell_at h.cells p i)
+Stays h h' p = (place_at h'.places p ≡ place_at h.places p) × ((i : ℕ) → i < 64 → cell_at h'.cells p i ≡ cell_at h.cells p i)
 
 module _ {h : House} (z : Sizes h) (p : ℕ) (b : p < 32) where
   certify_stays : (me : ℕ) → p ≢ me → above h.order (level_of p) (level_of me) ≡ false → Stays h (certified_by h me) p
-  unfolding certified_by
   certify_stays me n u = (
     certified_place_other h me p n,
-    λ k K. refl,
     λ i a. certify_other z me p i b a n ∙ signal_passes z certify me p i b a u,
   )
 
   abort_stays : (me : ℕ) → p ≢ me → Stays h (aborted_by h me) p
-  unfolding left
-  abort_stays me n = (left_place_other h h.cells me p n, λ k K. forgets_counts z me 0 p k b (is_label_lem k K) n, λ i a. left_other z h.cells me z.cells p i b a n)
+  abort_stays me n = (left_place_other h h.cells me p n, λ i a. left_other z h.cells me z.cells p i b a n)
 
   commit_stays : (me : ℕ) → p ≢ me → above h.order (level_of p) (level_of me) ≡ false → Stays h (committed_by h me) p
-  unfolding left
   commit_stays me n u =
       let cells = signalled commit h me in
-      (left_place_other h cells me p n, λ k K. forgets_counts z me 0 p k b (is_label_lem k K) n, λ i a. left_other z cells me (signalled_long z commit me) p i b a n ∙ signal_passes z commit me p i b a u)
-
-  save_stays : (me n : ℕ) → p ≢ me → Stays h (saved_by h me n) p
-  unfolding saved_by
-  save_stays me n d = (saved_place_other h me n p d, λ k K. noted_counts z me n p k b (is_label_lem k K) d, λ i a. refl)
-
-  return_stays : (me n : ℕ) → p ≢ me → Stays h (returned_by h me n) p
-  unfolding returned_by
-  return_stays me n d = (returned_place_other h me n p d, λ k K. forgets_counts z me n p k b (is_label_lem k K) d, λ i a. return_other z me n p i b a d)
+      (left_place_other h cells me p n, λ i a. left_other z cells me (signalled_long z commit me) p i b a n ∙ signal_passes z commit me p i b a u)
 
   turn_stays : {q : Request} {o : Outcome} → level_of p ≢ q.level → above h.order (level_of p) q.level ≡ false → Turn h q o → Stays h o.house p
   unfolding begun read_by written_by
-  turn_stays n u (refused x) = (refl, λ k K. refl, λ i a. refl)
-  turn_stays n u (waits r x e) = (refl, λ k K. refl, λ i a. refl)
-  turn_stays {q} n u (begins me o K) = (begun_place_other h q.level me p (λ e. n (rw e K.placed)), λ k M. refl, λ i a. refl)
-  turn_stays {q} n u (reads me o A K) = let d : p ≢ me = λ e. n (rw e A.seated.within.level) in (read_place_other h me q.item p d, λ k M. refl, λ i a. read_cell_other h me q.item p i K.row a (λ e. absurd (n (rw e A.seated.within.level))))
-  turn_stays {q} n u (writes me o A K) = let d : p ≢ me = λ e. n (rw e A.seated.within.level) in (written_place_other h me q.item q.value p d, λ k M. refl, λ i a. written_cell_other h me q.item q.value p i K.row a (λ e. absurd (n (rw e A.seated.within.level))))
+  turn_stays n u (refused x) = (refl, λ i a. refl)
+  turn_stays n u (waits r x e) = (refl, λ i a. refl)
+  turn_stays {q} n u (begins me o K) = (begun_place_other h q.level me p (λ e. n (rw e K.placed)), λ i a. refl)
+  turn_stays {q} n u (reads me o A K) = (refl, λ i a. read_cell_other h me q.item p i K.row a (λ e. absurd (n (rw e A.seated.within.level))))
+  turn_stays {q} n u (writes me o A K) = (refl, λ i a. written_cell_other h me q.item q.value p i K.row a (λ e. absurd (n (rw e A.seated.within.level))))
   turn_stays n u (certifies me o A K) = let l = A.seated.within.level in certify_stays me (λ e. n (rw e l)) (rw l u)
   turn_stays n u (commits me o A K) = let l = A.seated.within.level in commit_stays me (λ e. n (rw e l)) (rw l u)
   turn_stays n u (aborts me o A) = abort_stays me (λ e. n (rw e A.seated.within.level))
-  turn_stays n u (asks me o A) = (refl, λ k K. refl, λ i a. refl)
-  turn_stays n u (saves me o A K) = save_stays me _ (λ e. n (rw e A.seated.within.level))
-  turn_stays {q} n u (returns me o A K) = return_stays me q.value (λ e. n (rw e A.seated.within.level))
+  turn_stays n u (asks me o A) = (refl, λ i a. refl)
 
 pub reaches_up : ReachesUp
 reaches_up h z q p b n u = turn_stays z p b n u (turn h q)

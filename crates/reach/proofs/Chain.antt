@@ -22,7 +22,7 @@ use Rattle.house.specs.Cell.{has, cell_at, map_cells, holds}
 use Rattle.house.specs.Checks.{foremost}
 use Rattle.house.specs.House.{dominates, above, level_of, item_at, next_at, vacancy}
 use Rattle.house.specs.Order.{old_chain}
-use Rattle.house.specs.Rules.{begin, read, write, certify, commit, abort, ask, save, ◌does◌, asker, no_level, forbidden, refusals, checks, verdict, untimely, wrote, signals_at, signalled_cell, signalled, converted_cell, certified_by, begun, read_by, read_answer, written_by, forgets, left, committed_by, saved_by, returned_by, ask_answer, outcome, served, performed, unserved, stepped}
+use Rattle.house.specs.Rules.{begin, read, write, certify, commit, abort, ◌does◌, asker, no_level, forbidden, refusals, checks, verdict, untimely, wrote, signals_at, signalled_cell, signalled, converted_cell, certified_by, begun, read_by, read_answer, written_by, left, committed_by, ask_answer, outcome, served, performed, unserved, stepped}
 use Rattle.house.specs.Opening.{wrong_length, wrong_table, open_verdict, opened, opening}
 use Rattle.house.specs.Run.{finally, replies}
 use Rattle.house.proofs.Unfolding.{tests}
@@ -187,25 +187,19 @@ module _ (order : List ℕ) (rule : Rule) where
 
     -- but for a certify and a commit, the rules look at none either
     served_same : q does certify ≡ false → q does commit ≡ false → (me : ℕ) → served (with_terms h order rule) q me ≡ Other (served h q me)
-    unfolding served read_by read_answer written_by forgets left ask_answer saved_by returned_by
+    unfolding served read_by read_answer written_by left ask_answer
     served_same c w me =
         rw (c, w)
         (elim (is (q does read)) [
           | inl y ↦ rw y
           | inr y ↦ elim (is (q does write)) [
             | inl z ↦ rw (y, z)
-            | inr z ↦ elim (is (q does abort)) [
-              | inl x ↦ rw (y, z, x)
-              | inr x ↦ elim (is (q does ask)) [
-                | inl k ↦ rw (y, z, x, k)
-                | inr k ↦ elim (is (q does save)) [ inl s ↦ rw (y, z, x, k, s) | inr s ↦ rw (y, z, x, k, s) ]
-              ]
-            ]
+            | inr z ↦ elim (is (q does abort)) [ inl x ↦ rw (y, z, x) | inr x ↦ rw (y, z, x) ]
           ]
         ])
 
     old_same : (me : ℕ) → old_served (with_terms h order rule) q me ≡ Other (old_served h q me)
-    unfolding old_served old_certified_by old_committed_by left forgets
+    unfolding old_served old_certified_by old_committed_by left
     old_same me =
         elim (is (q does certify)) [
           | inl c ↦ rw c

@@ -1,6 +1,6 @@
 -- What each operation's change leaves to the others (`-frame`) and has of its own (`-own`), operation by operation.
 -- Assumes nothing.
-use Prim.Native.Nat.{ℕ, ◌+◌, ◌≤◌, ◌<◌}
+use Prim.Native.Nat.{ℕ, ◌+◌, ◌<◌}
 use native.Mathlib.Omega.{arith}
 use mathlib.Core.Path.{◌≡◌, refl, sym, ap, ◌∙◌}
 use mathlib.Core.Logic.{◌≢◌, ◌⊎◌, inl, inr}
@@ -12,20 +12,18 @@ use borrow.Author.Tests.{eq-eqb, ne_eqb}
 use Rattle.house.specs.declared.House.{House}
 use Rattle.house.specs.declared.Mark.{Mark}
 use Rattle.house.specs.declared.Mark.TheVariants.{Read, Write, Certify, Signalled}
-use Rattle.house.specs.declared.Place.{Place}
 use Rattle.house.specs.declared.Rule.{Rule}
 use Rattle.house.specs.declared.Rule.TheVariants.{A, B}
 use Rattle.house.specs.declared.Standing.TheVariants.{Active}
-use Rattle.house.specs.Cell.{has, marked, unmarked, since, cell_at, holds}
-use Rattle.house.specs.House.{fixed, Sizes, above, level_of, item_at, pending_at, place_at, at_label, next_at, is_free}
-use Rattle.house.specs.Rules.{certify, commit, ticket_after, begun, counted, read_by, written_by, wrote, signals_at, signalled_cell, signalled, converted_cell, certified_by, dropped_pending, forgotten, forgets, cleared_cell, left, committed_item, committed_by, aborted_by}
+use Rattle.house.specs.Cell.{has, marked, unmarked, cell_at, holds}
+use Rattle.house.specs.House.{fixed, Sizes, above, level_of, item_at, pending_at, place_at, next_at, is_free}
+use Rattle.house.specs.Rules.{certify, commit, ticket_after, begun, read_by, written_by, wrote, signals_at, signalled_cell, signalled, converted_cell, certified_by, dropped_pending, cleared_cell, left, committed_item, committed_by, aborted_by}
 use Rattle.house.proofs.Tests.{is, same, clash, refuted, and_true, or_left, or_right}
 use Rattle.house.proofs.Levels.{above_itself, above_intro}
-use Rattle.house.proofs.Cells.{alike, has_marked, has_unmarked, since_marked, since_unmarked, locked_before, since_locked, cell_here, cell_locked, cell_elsewhere, has_with_mark, has_with_lock}
-use Rattle.house.proofs.Labels.{IsLabel, forgotten_later, forgotten_earlier, forgotten_another, Stays, counted_stays}
-use Rattle.house.proofs.Effects.{begun_sizes, begun_place, begun_next, read_sizes, read_place, written_sizes, written_place, written_pending, signalled_long, signalled_cell_lem, certified_sizes, certified_place, certified_cell, left_sizes, left_pending, left_place, left_cell, committed_sizes, committed_item_lem, begun_place_other, begun_next_other, read_cell_other, read_place_other, written_cell_other, written_place_other, written_pending_other, certified_place_other, left_place_other, begun_fixed, read_fixed, written_fixed, certified_fixed, committed_fixed}
-use Rattle.reach.specs.Kept.{Open, Issued}
-use Rattle.reach.proofs.Law.{held, held_write, held_neither, Draft, draft_same, Law, clear_has, clear_held, unheld, open_held, Spared, spared_same, Frame, Own, unsaved_still, clear_own}
+use Rattle.house.proofs.Cells.{alike, has_marked, has_unmarked, has_with_mark}
+use Rattle.house.proofs.Effects.{begun_sizes, begun_place, begun_next, read_sizes, written_sizes, signalled_long, signalled_cell_lem, certified_sizes, certified_place, certified_cell, left_sizes, left_pending, left_place, left_cell, committed_sizes, committed_item_lem, begun_place_other, begun_next_other, read_cell_other, written_cell_other, written_pending_other, certified_place_other, left_place_other, begun_fixed, read_fixed, written_fixed, certified_fixed, committed_fixed}
+use Rattle.reach.specs.Kept.{Issued}
+use Rattle.reach.proofs.Law.{held, held_write, held_neither, Law, clear_has, unheld, Spared, spared_same, Frame, Own, clear_own}
 use Rattle.reach.proofs.Turns.{MayBegin, MayRead, MayWrite, MayCertify}
 
 -- an active transaction has no certify lock
@@ -61,10 +59,8 @@ module _ {h : House} {l me : ℕ} (L : Law h) (K : MayBegin h l me) where
         fixed = begun_fixed h l me;
         sizes = begun_sizes L.sizes l me;
         place = λ p b n. begun_place_other h l me p n;
-        counts = λ p n b N d. refl;
         cell = λ p i b a n. spared_same refl;
         item = λ p i b a n x. (refl, refl);
-        saved = λ p i n b a N d x. refl;
         row = λ p i b a n x y. refl;
         issued = still_issued;
       }
@@ -75,7 +71,7 @@ module _ {h : House} {l me : ℕ} (L : Law h) (K : MayBegin h l me) where
   now_issued = rw (begun_next L.sizes l me K.level) (λ z. elim (after_cases (next_at h.next l)) [ inl g ↦ omega arith | inr g ↦ absurd (z g) ])
 
   pub begin_own : Own h (begun h l me) me
-  unfolding Issued begun
+  unfolding Issued
   begin_own =
       clear_own begin_clear
       (λ p b n o x k t.
@@ -83,55 +79,17 @@ module _ {h : House} {l me : ℕ} (L : Law h) (K : MayBegin h l me) where
       let w : (place_at h.places p).ticket ≡ next_at h.next l = rw (begun_place L.sizes l me K.place) at t in
       omega arith)
       (λ o. rw (begun_place L.sizes l me K.place, K.placed) now_issued)
-      (λ o. rw (begun_place L.sizes l me K.place) (omega arith))
-      (λ i n a N others. unsaved_still L me i n a N others (clear_held _ ((L.cells me i K.place a).idle K.empty)))
 
 -- READ
 
 module _ {h : House} {me i : ℕ} (L : Law h) (K : MayRead h me i) where
-  pub read_stays : Stays (place_at h.places me) (place_at (read_by h me i).places me)
-  read_stays = rw (read_place L.sizes me i K.place) (counted_stays (place_at h.places me))
-
   pub read_mine : (n : Mark) (j : ℕ) → j < 64 → has n (cell_at (read_by h me i).cells me j) ≡ (alike n Read && eqb j i || has n (cell_at h.cells me j))
   unfolding read_by
-  read_mine n j a = has_with_lock h.cells L.sizes.cells n (place_at h.places me).labels me i j K.place K.row a
+  read_mine n j a = has_with_mark h.cells L.sizes.cells n Read me i j K.place K.row a
 
   pub read_held : (j : ℕ) → j < 64 → held (cell_at (read_by h me i).cells me j) ≡ held (cell_at h.cells me j)
   unfolding held
   read_held j a = rw (read_mine Write j a, read_mine Certify j a)
-
-  -- a lock that was taken before was first taken then; one that is taken now, at as many labels as there are
-  pub read_old : (j : ℕ) → j < 64 → has Read (cell_at h.cells me j) ≡ true → since (cell_at (read_by h me i).cells me j) ≡ since (cell_at h.cells me j)
-  unfolding read_by
-  read_old j a r =
-      elim (same j i) [
-        | inl e ↦ rw (e, cell_locked h.cells L.sizes.cells (place_at h.places me).labels me i K.place K.row, locked_before (place_at h.places me).labels (cell_at h.cells me i) (rw e at r))
-        | inr d ↦ ap since (read_cell_other h me i me j K.row a (λ e. d))
-      ]
-
-  pub read_new : has Read (cell_at h.cells me i) ≡ false → since (cell_at (read_by h me i).cells me i) ≡ (place_at h.places me).labels
-  unfolding read_by
-  read_new r =
-      rw (cell_locked h.cells L.sizes.cells (place_at h.places me).labels me i K.place K.row)
-      (since_locked (place_at h.places me).labels _ r (let few = L.labels me K.place (rw K.active) in omega arith))
-
-  read_locked : (j : ℕ) → j < 64 → since (cell_at (read_by h me i).cells me j) ≤ (place_at h.places me).labels
-  read_locked j a =
-      let k = (L.cells me j K.place a).locked in
-      elim (is (has Read (cell_at h.cells me j))) [
-        | inl r ↦ rw (read_old j a r) k
-        | inr r ↦ elim (same j i) [
-          | inl e ↦ rw (e, read_new (rw e at r)) (omega arith)
-          | inr d ↦ rw (read_cell_other h me i me j K.row a (λ e. d)) k
-        ]
-      ]
-
-  read_unread : (j : ℕ) → j < 64 → has Read (cell_at (read_by h me i).cells me j) ≡ false → since (cell_at (read_by h me i).cells me j) ≡ 0
-  read_unread j a r =
-      elim (same j i) [
-        | inl e ↦ clash (read_mine Read j a ∙ rw (eq-eqb j i e)) r
-        | inr d ↦ let x = read_cell_other h me i me j K.row a (λ e. d) in rw x ((L.cells me j K.place a).unread (rw x at r))
-      ]
 
   pub read_frame : Frame h (read_by h me i) me
   unfolding read_by Issued
@@ -139,11 +97,9 @@ module _ {h : House} {me i : ℕ} (L : Law h) (K : MayRead h me i) where
       record {
         fixed = read_fixed h me i;
         sizes = read_sizes L.sizes me i;
-        place = λ p b n. read_place_other h me i p n;
-        counts = λ p n b N d. refl;
+        place = λ p b n. refl;
         cell = λ p j b a n. spared_same (read_cell_other h me i p j K.row a (λ e. absurd (n e)));
         item = λ p j b a n x. (refl, refl);
-        saved = λ p j n b a N d x. refl;
         row = λ p j b a n x y. refl;
         issued = λ l t x. x;
       }
@@ -152,17 +108,13 @@ module _ {h : House} {me i : ℕ} (L : Law h) (K : MayRead h me i) where
   unfolding read_by Issued
   read_own =
       let m = K.place in
-      let s = read_stays in
-      let o : Open h me = rw K.active in
       record {
         cells = λ j a.
             let k = L.cells me j m a in
             record {
-              idle = λ f. clash f (rw (s.standing, K.active));
-              writing = λ w. rw s.standing (k.writing (sym (read_mine Write j a) ∙ w));
-              certifying = λ w. rw s.standing (k.certifying (sym (read_mine Certify j a) ∙ w));
-              locked = rw s.labels (read_locked j a);
-              unread = read_unread j a;
+              idle = λ f. clash f (rw K.active);
+              writing = λ w. k.writing (sym (read_mine Write j a) ∙ w);
+              certifying = λ w. k.certifying (sym (read_mine Certify j a) ∙ w);
               below = λ r. elim (same j i) [ inl e ↦ rw e K.may | inr n ↦ k.below (rw (read_mine Read j a, ne_eqb j i n) at r) ];
               heard = λ x. read_mine Read j a ∙ or_right (eqb j i) _ (k.heard (sym (read_mine Signalled j a) ∙ x));
               owned = λ g. k.owned (sym (read_held j a) ∙ g);
@@ -177,30 +129,16 @@ module _ {h : House} {me i : ℕ} (L : Law h) (K : MayRead h me i) where
                   let w = L.warned p me j b m a (λ e. n (sym e)) c (rw (read_mine Read j a, ne_eqb j i d) at r) in
                   record { higher = w.higher; signal = λ r. read_mine Signalled j a ∙ w.signal r }
             ];
-        apart = λ p b n x y l t. n (L.apart p me b m y o l (t ∙ s.ticket));
-        issued = λ x. rw s.ticket (L.issued me m o);
-        labels = λ x. rw s.labels (L.labels me m o);
-        draft = λ j a g. rw s.labels (draft_same {h = h} refl (λ n N. refl) (L.labels me m o) (L.draft me j m a (sym (read_held j a) ∙ g)));
-        unsaved = λ j n a N others none. unsaved_still L me j n a N others (sym (read_held j a) ∙ none);
+        apart = λ p b n o x l t. n (L.apart p me b m x o l t);
+        issued = λ o. L.issued me m o;
       }
 
 -- WRITE
 
 module _ {h : House} {me i v : ℕ} (L : Law h) (K : MayWrite h me i v) where
-  pub write_stays : Stays (place_at h.places me) (place_at (written_by h me i v).places me)
-  write_stays = rw (written_place L.sizes me i v K.place) (counted_stays (place_at h.places me))
-
   pub write_mine : (n : Mark) (j : ℕ) → j < 64 → has n (cell_at (written_by h me i v).cells me j) ≡ (alike n Write && eqb j i || has n (cell_at h.cells me j))
   unfolding written_by
   write_mine n j a = has_with_mark h.cells L.sizes.cells n Write me i j K.place K.row a
-
-  pub write_since : (j : ℕ) → j < 64 → since (cell_at (written_by h me i v).cells me j) ≡ since (cell_at h.cells me j)
-  unfolding written_by
-  write_since j a =
-      elim (same j i) [
-        | inl e ↦ rw (e, cell_here h.cells L.sizes.cells Write me i K.place K.row) (since_marked Write _)
-        | inr d ↦ ap since (cell_elsewhere Write h.cells me i me j K.row a (λ e. d))
-      ]
 
   pub write_held : (j : ℕ) → j < 64 → j ≢ i → held (cell_at (written_by h me i v).cells me j) ≡ held (cell_at h.cells me j)
   unfolding held
@@ -209,50 +147,30 @@ module _ {h : House} {me i v : ℕ} (L : Law h) (K : MayWrite h me i v) where
   pub write_holds : held (cell_at (written_by h me i v).cells me i) ≡ true
   write_holds = held_write _ (write_mine Write i K.row ∙ rw (eq-eqb i i refl))
 
-  -- what I write now and had not written, nobody had, so nothing is saved of it
-  pub write_unsaved : held (cell_at h.cells me i) ≡ false → (n : ℕ) → IsLabel n → at_label h.saved i n ≡ 0
-  write_unsaved e n N = unsaved_still L me i n K.row N K.uncontested e
-
   pub write_frame : Frame h (written_by h me i v) me
   unfolding written_by Issued
   write_frame =
       record {
         fixed = written_fixed h me i v;
         sizes = written_sizes L.sizes me i v;
-        place = λ p b n. written_place_other h me i v p n;
-        counts = λ p n b N d. refl;
+        place = λ p b n. refl;
         cell = λ p j b a n. spared_same (written_cell_other h me i v p j K.row a (λ e. absurd (n e)));
         item = λ p j b a n x. (refl, elim (same j i) [ inl e ↦ clash x (rw e (K.uncontested p b n)) | inr d ↦ written_pending_other h me i v j d ]);
-        saved = λ p j n b a N d x. refl;
         row = λ p j b a n x y. refl;
         issued = λ l t x. x;
       }
-
-  -- the item that I write, whether I had written it or not
-  write_draft : Draft (written_by h me i v) (place_at h.places me).labels i
-  unfolding written_by
-  write_draft =
-      let drawn : pending_at (written_by h me i v).pending i ≢ 0 = rw (written_pending L.sizes me i v K.row) K.drawn in
-      elim (is (held (cell_at h.cells me i))) [
-        | inl g ↦ let D = L.draft me i K.place K.row g in record { drawn = drawn; later = D.later; rising = D.rising }
-        | inr g ↦ record { drawn = drawn; later = λ n N b. write_unsaved g n N; rising = λ k n N b c z. write_unsaved g k N }
-      ]
 
   pub write_own : Own h (written_by h me i v) me
   unfolding written_by Issued
   write_own =
       let m = K.place in
-      let s = write_stays in
-      let o : Open h me = rw K.active in
       record {
         cells = λ j a.
             let k = L.cells me j m a in
             record {
-              idle = λ f. clash f (rw (s.standing, K.active));
-              writing = λ w. rw (s.standing, K.active);
-              certifying = λ w. rw s.standing (k.certifying (sym (write_mine Certify j a) ∙ w));
-              locked = rw (s.labels, write_since j a) k.locked;
-              unread = λ r. write_since j a ∙ k.unread (sym (write_mine Read j a) ∙ r);
+              idle = λ f. clash f (rw K.active);
+              writing = λ w. rw K.active;
+              certifying = λ w. k.certifying (sym (write_mine Certify j a) ∙ w);
               below = λ r. k.below (sym (write_mine Read j a) ∙ r);
               heard = λ x. write_mine Read j a ∙ k.heard (sym (write_mine Signalled j a) ∙ x);
               owned = λ g. elim (same j i) [ inl e ↦ rw e K.mine | inr n ↦ k.owned (sym (write_held j a n) ∙ g) ];
@@ -263,20 +181,8 @@ module _ {h : House} {me i v : ℕ} (L : Law h) (K : MayWrite h me i v) where
         warned = λ p j b a n c r.
             let w = L.warned p me j b m a (λ e. n (sym e)) c (sym (write_mine Read j a) ∙ r) in
             record { higher = w.higher; signal = λ r. write_mine Signalled j a ∙ w.signal r };
-        apart = λ p b n x y l t. n (L.apart p me b m y o l (t ∙ s.ticket));
-        issued = λ x. rw s.ticket (L.issued me m o);
-        labels = λ x. rw s.labels (L.labels me m o);
-        draft = λ j a g.
-            rw s.labels
-            (elim (same j i) [
-              | inl e ↦ rw e write_draft
-              | inr d ↦ draft_same {h = h} (written_pending_other h me i v j d) (λ n N. refl) (L.labels me m o) (L.draft me j m a (sym (write_held j a d) ∙ g))
-            ]);
-        unsaved = λ j n a N others none.
-            elim (same j i) [
-              | inl e ↦ clash (rw e write_holds) none
-              | inr d ↦ unsaved_still L me j n a N others (sym (write_held j a d) ∙ none)
-            ];
+        apart = λ p b n o x l t. n (L.apart p me b m x o l t);
+        issued = λ o. L.issued me m o;
       }
 
 -- SIGNALS
@@ -297,7 +203,6 @@ spared_signal c r =
       reading = has_marked Read Signalled c;
       writing = has_marked Write Signalled c;
       certifying = has_marked Certify Signalled c;
-      since = since_marked Signalled c;
       signal = λ s. has_marked Signalled Signalled c;
       heard = λ s. inr r;
     }
@@ -367,10 +272,8 @@ module _ {h : House} {me : ℕ} (L : Law h) (K : MayCertify h me) where
         fixed = certified_fixed h me;
         sizes = certified_sizes L.sizes me;
         place = λ p b n. certified_place_other h me p n;
-        counts = λ p n b N d. refl;
         cell = λ p i b a n. rw (certify_other L.sizes me p i b a n) (signal_spared L.sizes certify me p i b a);
         item = λ p i b a n x. (refl, refl);
-        saved = λ p i n b a N d x. refl;
         row = λ p i b a n x y. refl;
         issued = λ l t x. x;
       }
@@ -381,12 +284,6 @@ module _ {h : House} {me : ℕ} (L : Law h) (K : MayCertify h me) where
       let c = cell_at h.cells me i in
       rw (certify_converts L.sizes me i K.place a)
       (elim (is (has Write c)) [ inl w ↦ rw (w, has_marked n Certify (unmarked Write c), has_unmarked n Write c) | inr w ↦ rw w ])
-
-  pub certify_since : (i : ℕ) → i < 64 → since (cell_at (certified_by h me).cells me i) ≡ since (cell_at h.cells me i)
-  certify_since i a =
-      let c = cell_at h.cells me i in
-      rw (certify_converts L.sizes me i K.place a)
-      (elim (is (has Write c)) [ inl w ↦ rw (w, since_marked Certify (unmarked Write c), since_unmarked Write c) | inr w ↦ rw w ])
 
   pub certify_held : (i : ℕ) → i < 64 → held (cell_at (certified_by h me).cells me i) ≡ held (cell_at h.cells me i)
   unfolding held
@@ -426,8 +323,6 @@ module _ {h : House} {me : ℕ} (L : Law h) (K : MayCertify h me) where
               idle = λ f. clash f refl;
               writing = λ w. clash w (certify_writes i a);
               certifying = λ c. refl;
-              locked = rw (certify_since i a) k.locked;
-              unread = λ r. certify_since i a ∙ k.unread (sym (certify_read i a) ∙ r);
               below = λ r. k.below (sym (certify_read i a) ∙ r);
               heard = λ x. certify_read i a ∙ k.heard (sym (certify_signalled i a) ∙ x);
               owned = λ g. k.owned (sym (certify_held i a) ∙ g);
@@ -446,31 +341,7 @@ module _ {h : House} {me : ℕ} (L : Law h) (K : MayCertify h me) where
             record { higher = w.higher; signal = λ e. certify_signalled i a ∙ w.signal e };
         apart = λ p b n o x l t. n (L.apart p me b m x (rw K.active) l (t ∙ rw (certified_place L.sizes me m)));
         issued = λ o. rw (certified_place L.sizes me m) (certify_frame.issued _ _ (L.issued me m (rw K.active)));
-        labels = λ x. rw (certified_place L.sizes me m) (L.labels me m (rw K.active));
-        draft = λ i a g. rw (certified_place L.sizes me m) (draft_same {h = h} refl (λ n N. refl) (L.labels me m (rw K.active)) (L.draft me i m a (sym (certify_held i a) ∙ g)));
-        unsaved = λ i n a N others none. unsaved_still L me i n a N others (sym (certify_held i a) ∙ none);
       }
-
--- LABELS THAT ARE FORGOTTEN, after label k: of what I have written, and my counts
-
-module _ {h : House} (L : Law h) (me k : ℕ) where
-  module _ (i n : ℕ) (a : i < 64) (N : IsLabel n) where
-    pub forgets_later : me < 32 → held (cell_at h.cells me i) ≡ true → k < n → at_label (forgets h me k).saved i n ≡ 0
-    unfolding forgets wrote holds held
-    forgets_later m y b = forgotten_later h.saved 64 L.sizes.saved i n a N (wrote h.cells me) k _ y b ((L.draft me i m a y).later n N)
-
-    pub forgets_earlier : n ≤ k → at_label (forgets h me k).saved i n ≡ at_label h.saved i n
-    unfolding forgets
-    forgets_earlier b = forgotten_earlier h.saved 64 L.sizes.saved i n a N (wrote h.cells me) k _ b
-
-    pub forgets_unheld : held (cell_at h.cells me i) ≡ false → at_label (forgets h me k).saved i n ≡ at_label h.saved i n
-    unfolding forgets wrote holds held
-    forgets_unheld e = forgotten_another h.saved 64 L.sizes.saved i n a N (wrote h.cells me) k _ e
-
--- and nobody else's
-pub forgets_counts : {h : House} → Sizes h → (me k p n : ℕ) → p < 32 → IsLabel n → p ≢ me → at_label (forgets h me k).counts p n ≡ at_label h.counts p n
-unfolding forgets
-forgets_counts {h} z me k p n b N d = forgotten_another h.counts 32 z.counts p n b N (eqb me) k _ (ne_eqb me p (λ e. d (sym e)))
 
 -- COMMIT AND ABORT: the place is left, with such cells
 
@@ -499,33 +370,22 @@ module _ {h : House} (z : Sizes h) (cells : List ℕ) (me : ℕ) where
 module _ {h : House} {me : ℕ} (L : Law h) (m : me < 32) where
   -- where the others are at most signalled
   left_frame : (cells : List ℕ) → length cells ≡ 2048 → ((p i : ℕ) → p < 32 → i < 64 → Spared (cell_at h.cells p i) (cell_at cells p i)) → Frame h (left cells h me) me
-  unfolding left forgets fixed Issued
+  unfolding left fixed Issued
   left_frame cells long told =
       record {
         fixed = refl;
         sizes = left_sizes L.sizes cells me long;
         place = λ p b n. left_place_other h cells me p n;
-        counts = λ p n b N d. forgets_counts L.sizes me _ p n b N d;
         cell = λ p i b a n. rw (left_other L.sizes cells me long p i b a n) (told p i b a);
         item = λ p i b a n x. (refl, left_stays L.sizes cells me i a (unheld L me p i m b a (λ e. n (sym e)) x));
-        saved = λ p i n b a N d x. forgets_unheld L me _ i n a N (unheld L me p i m b a (λ e. d (sym e)) x);
         row = λ p i b a n x y. refl;
         issued = λ l t x. x;
       }
 
-  -- what I had written has nothing saved any more; what nobody had written had nothing
-  left_unsaved : (i n : ℕ) → i < 64 → IsLabel n → ((p : ℕ) → p < 32 → p ≢ me → held (cell_at h.cells p i) ≡ false) → at_label (forgets h me 0).saved i n ≡ 0
-  left_unsaved i n a N others =
-      elim (is (held (cell_at h.cells me i))) [
-        | inl y ↦ forgets_later L me 0 i n a N m y (let some = N.some in omega arith)
-        | inr y ↦ forgets_unheld L me 0 i n a N y ∙ unsaved_still L me i n a N others y
-      ]
-
   left_own : (cells : List ℕ) → length cells ≡ 2048 → Own h (left cells h me) me
-  unfolding left
   left_own cells long =
       let free = freed L.sizes cells me m in
-      clear_own (λ i a. left_mine L.sizes cells me long i m a) (λ p b n o x l t. clash free o) (λ o. clash free o) (λ o. clash free o) left_unsaved
+      clear_own (λ i a. left_mine L.sizes cells me long i m a) (λ p b n o x l t. clash free o) (λ o. clash free o)
 
   pub abort_frame : Frame h (aborted_by h me) me
   abort_frame = left_frame h.cells L.sizes.cells (λ p i b a. spared_same refl)
@@ -562,17 +422,14 @@ module _ {h : House} {me : ℕ} (L : Law h) (m : me < 32) where
         fixed = committed_fixed h me;
         sizes = committed_sizes L.sizes me;
         place = F.place;
-        counts = F.counts;
         cell = F.cell;
-        saved = F.saved;
         item = λ p i b a n x. (committed_row i a (held_neither _ (unheld L me p i m b a (λ e. n (sym e)) x)).1, (F.item p i b a n x).1);
         row = λ p i b a n x y. read_row p i b a n x (rw (left_other L.sizes cells me long p i b a n) at y);
         issued = F.issued;
       }
 
   pub commit_own : Own h (committed_by h me) me
-  unfolding left
   commit_own =
       let cells = signalled commit h me in
       let free = freed L.sizes cells me m in
-      clear_own (λ i a. left_mine L.sizes cells me (signalled_long L.sizes commit me) i m a) (λ p b n o x l t. clash free o) (λ o. clash free o) (λ o. clash free o) left_unsaved
+      clear_own (λ i a. left_mine L.sizes cells me (signalled_long L.sizes commit me) i m a) (λ p b n o x l t. clash free o) (λ o. clash free o)

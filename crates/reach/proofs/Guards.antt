@@ -2,10 +2,9 @@
 -- Assumes nothing.
 use Prim.Native.Nat.{ℕ, ◌+◌, ◌≤◌, ◌<◌}
 use native.Mathlib.Omega.{arith}
-use native.Mathlib.Nat.{mod-eq_of_lt}
 use mathlib.Core.Path.{◌≡◌, refl, sym, ◌∙◌}
 use mathlib.Core.Logic.{inl, inr}
-use mathlib.Core.Bool.{true, ◌&&◌, ◌||◌}
+use mathlib.Core.Bool.{◌&&◌, ◌||◌}
 use lib.Dec.{eqb, leb}
 use borrow.Author.Tests.{eq-eqb, eqb-true, leb-false, lt-leb, lt-ltb, not-true}
 use Rattle.house.specs.declared.Answer.TheVariants.{Refused}
@@ -18,13 +17,13 @@ use Rattle.house.specs.declared.Request.{Request}
 use Rattle.house.specs.Search.{if_found}
 use Rattle.house.specs.Cell.{holds}
 use Rattle.house.specs.Checks.{foremost}
-use Rattle.house.specs.Rules.{asking, uses_item, no_item, spent, holder, delayed, refusals, checks, verdict, grown, tallied, read_answer, read_for, ask_answer, replied, named, unserved, stepped}
+use Rattle.house.specs.Rules.{uses_item, no_item, holder, delayed, refusals, checks, verdict, grown, read_answer, read_for, ask_answer, replied, named, unserved, stepped}
 use Rattle.house.proofs.Tests.{is, same, clash, and_true}
-use Rattle.house.proofs.Checks.{clear, given_last, passes, somebody}
+use Rattle.house.proofs.Checks.{given_last, passes, somebody}
 use Rattle.house.proofs.Steps.{first_refused, unserved_is, waits_is}
 use Rattle.reach.specs.Kept.{Kept}
 use Rattle.reach.specs.Guards.{Unguarded, GuardsRest, PlaceGuardRests, HolderGuardRests}
-use Rattle.reach.proofs.Turns.{Turn, refused, waits, begins, reads, writes, certifies, commits, aborts, asks, saves, returns, turn}
+use Rattle.reach.proofs.Turns.{Turn, refused, waits, begins, reads, writes, certifies, commits, aborts, asks, turn}
 use Rattle.reach.proofs.Opened.{reachable_has}
 
 grown_room : (v : ℕ) → v < 4294967295 → grown v ≡ v + 1
@@ -55,8 +54,6 @@ done_number v (certifies me o A K) = refl
 done_number v (commits me o A K) = refl
 done_number v (aborts me o A) = refl
 done_number v (asks me o A) = refl
-done_number v (saves me o A K) = refl
-done_number v (returns me o A K) = refl
 
 unserved_number : (h : House) (q : Request) (n : ℕ) → (replied q (unserved h q n)).number ≡ n
 unfolding unserved
@@ -85,19 +82,8 @@ delay_held h q e =
 pub holder_guard_rests : HolderGuardRests
 holder_guard_rests h q e = let d = delay_held h q e in (d.1, d.2, waits_is h q d.1 d.0 d.2)
 
--- a read or a write that is done was not the thirty-third
-unspent : (h : House) (q : Request) → verdict h q ≡ 0 → uses_item q ≡ true → tallied (asking h q).count ≡ (asking h q).count + 1
-unfolding spent tallied
-unspent h q v u = rw (lt-ltb (asking h q).count 32 (leb-false 32 _ (rw u at (clear h q (passes h q v).0).unspent)))
-
 pub unguarded : {h : House} → Kept h → Unguarded h
-unguarded {h} K =
-    record {
-      grows = λ p i b a w. grown_room _ (K.room p i b a w);
-      counted = item_counted h K.count;
-      tallies = unspent h;
-      fits = λ p b. mod-eq_of_lt (let few = K.labels p b in omega arith);
-    }
+unguarded {h} K = record { grows = λ p i b a w. grown_room _ (K.room p i b a w); counted = item_counted h K.count }
 
 pub guards_rest : GuardsRest
 guards_rest h R = unguarded (reachable_has h R)

@@ -1,8 +1,6 @@
 pub mod Law
 pub mod Turns
 pub mod Changes
-pub mod Saves
-pub mod Views
 pub mod Kept
 pub mod Opened
 pub mod Guards
@@ -17,4 +15,3 @@ pub mod Tickets
 pub mod Beside
 pub mod Chain
 pub mod Signals
-pub mod Returns

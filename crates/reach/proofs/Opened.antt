@@ -12,7 +12,7 @@ use borrow.Author.Tests.{eq-eqb, ne_eqb, eqb-true, eqb-false, ltb-true, ltb-fals
 use Rattle.house.specs.declared.House.{House}
 use Rattle.house.specs.declared.Rule.{Rule}
 use Rattle.house.specs.declared.Rule.TheVariants.{A}
-use Rattle.house.specs.House.{place_at, is_free, at_label}
+use Rattle.house.specs.House.{place_at, is_free}
 use Rattle.house.specs.Checks.{foremost}
 use Rattle.house.specs.Order.{PartialOrder, disordered, old_chain}
 use Rattle.house.specs.Opening.{wrong_count, wrong_length, high_at, wrong_level, wrong_table, open_verdict, opened, opening}
@@ -20,11 +20,10 @@ use Rattle.house.proofs.Tests.{is, clash, refuted, and_true, or_false, not_is}
 use Rattle.house.proofs.Searches.{any_none, any_some}
 use Rattle.house.proofs.Levels.{ordered, undisordered, old_chain_long, old_chain_ordered}
 use Rattle.house.proofs.Checks.{none_applies, test_fails, foremost_stands, given_last}
-use Rattle.house.proofs.Labels.{IsLabel}
-use Rattle.house.proofs.Openings.{opened_sizes, opened_item, opened_pending, opened_place, opened_cell, opened_next, opened_saved, opened_count}
+use Rattle.house.proofs.Openings.{opened_sizes, opened_item, opened_pending, opened_place, opened_cell, opened_next}
 use Rattle.reach.specs.Kept.{Kept, OpeningHas, ReachableHas}
 use Rattle.reach.specs.Opening.{Passable, OpeningStands, SixteenExactly, OpenedExactly, RefusedIsOld}
-use Rattle.reach.proofs.Law.{clear_law}
+use Rattle.reach.proofs.Law.{clear_held, clear_law}
 use Rattle.reach.proofs.Kept.{kept, finally_keeps}
 
 module _ (levels table : List ℕ) where
@@ -128,21 +127,15 @@ module _ (levels table : List ℕ) (rule : Rule) (few : length levels ≤ 64) (l
   opened_kept : Kept (opened levels table rule)
   unfolding opened
   opened_kept =
-      kept (clear_law (opened_sizes levels table rule whole) (opened_free levels table rule) (opened_cell levels table rule) (opened_saved levels table rule))
+      kept (clear_law (opened_sizes levels table rule whole) (opened_free levels table rule) (opened_cell levels table rule))
       (record {
         order = O;
         count = few;
         levels = λ i a. rw (opened_item levels table rule i a) (low_all i);
         rows = λ i a c. rw (opened_item levels table rule i a, get_or-eq_default levels 0 {n = i} c);
         pending = λ i a none. opened_pending levels table rule i a;
-        vacated = λ p b f. opened_place levels table rule p b;
-        counts = λ p b.
-            record {
-              few = rw (opened_place levels table rule p b) (omega arith);
-              at = λ n N. rw (opened_count levels table rule p n b N) (omega arith);
-              none = λ e. rw (opened_place levels table rule p b);
-              later = λ n N e. opened_count levels table rule p n b N;
-            };
+        drawn = λ p i b a w. clash w (clear_held _ (opened_cell levels table rule p i b a));
+        ticketless = λ p b f. rw (opened_place levels table rule p b);
         named = λ p b o. clash (opened_free levels table rule p b) o;
         next = λ l b. rw (opened_next levels table rule l b) (omega arith);
         inside = λ p i b a c. opened_cell levels table rule p i b a;
@@ -156,10 +149,6 @@ opening_has levels table rule =
 
 pub opening_free : (levels table : List ℕ) (rule : Rule) (p : ℕ) → p < 32 → is_free (place_at (opening levels table rule).house.places p).standing ≡ true
 opening_free levels table rule = opening_cases (λ h. (p : ℕ) → p < 32 → is_free (place_at h.places p).standing ≡ true) levels table rule (λ P O. opened_free levels table rule) (opened_free [] old_chain A)
-
--- and nothing is saved
-pub opening_unsaved : (levels table : List ℕ) (rule : Rule) (i n : ℕ) → i < 64 → IsLabel n → at_label (opening levels table rule).house.saved i n ≡ 0
-opening_unsaved levels table rule = opening_cases (λ h. (i n : ℕ) → i < 64 → IsLabel n → at_label h.saved i n ≡ 0) levels table rule (λ P O. opened_saved levels table rule) (opened_saved [] old_chain A)
 
 -- and so after all requests
 pub reachable_has : ReachableHas

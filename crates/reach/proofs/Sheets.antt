@@ -15,7 +15,7 @@ use Rattle.house.specs.declared.Request.{Request}
 use Rattle.house.specs.declared.Rule.{Rule}
 use Rattle.house.specs.Cell.{holds}
 use Rattle.house.specs.House.{item_at}
-use Rattle.house.specs.Rules.{grown, begun, read_by, written_by, wrote, certified_by, forgets, left, committed_item, committed_by, saved_by, returned_by}
+use Rattle.house.specs.Rules.{grown, begun, read_by, written_by, wrote, certified_by, left, committed_item, committed_by}
 use Rattle.house.specs.Order.{old_chain}
 use Rattle.house.specs.Opening.{opened}
 use Rattle.house.specs.Run.{finally}
@@ -24,7 +24,7 @@ use Rattle.house.proofs.Effects.{committed_item_lem}
 use Rattle.house.proofs.Openings.{opened_item}
 use Rattle.reach.specs.Kept.{Kept}
 use Rattle.reach.specs.Sheets.{NoBlankPut, ZeroUnsaved}
-use Rattle.reach.proofs.Turns.{Turn, refused, waits, begins, reads, writes, certifies, commits, aborts, asks, saves, returns, turn}
+use Rattle.reach.proofs.Turns.{Turn, refused, waits, begins, reads, writes, certifies, commits, aborts, asks, turn}
 use Rattle.reach.proofs.Kept.{step_keeps}
 use Rattle.reach.proofs.Opened.{opening_cases, opening_has, reachable_has}
 
@@ -46,7 +46,7 @@ commit_saves {h} K me i m a =
     ])
 
 turn_saves : {h : House} {q : Request} {o : Outcome} → Kept h → (i : ℕ) → i < 64 → Turn h q o → Saved (item_at h.items i) (item_at o.house.items i)
-unfolding begun read_by written_by certified_by left forgets saved_by returned_by
+unfolding begun read_by written_by certified_by left
 turn_saves K i a (refused n) = inl refl
 turn_saves K i a (waits p z e) = inl refl
 turn_saves K i a (begins me o M) = inl refl
@@ -56,8 +56,6 @@ turn_saves K i a (certifies me o A M) = inl refl
 turn_saves K i a (commits me o A M) = commit_saves K me i M.place a
 turn_saves K i a (aborts me o A) = inl refl
 turn_saves K i a (asks me o A) = inl refl
-turn_saves K i a (saves me o A M) = inl refl
-turn_saves K i a (returns me o A M) = inl refl
 
 pub no_blank_put : NoBlankPut
 no_blank_put h R q i a = elim (turn_saves (reachable_has h R) i a (turn h q)) [ inl e ↦ inl e | inr s ↦ inr s.0 ]

@@ -15,15 +15,14 @@ use Rattle.house.specs.declared.Request.{Request}
 use Rattle.house.specs.Search.{if_found}
 use Rattle.house.specs.Cell.{has, cell_at, holds}
 use Rattle.house.specs.House.{item_at}
-use Rattle.house.specs.Rules.{certify, commit, asker, begun, read_by, written_by, wrote, signals_at, signalled, certified_by, forgets, left, saved_by, returned_by, stepped}
+use Rattle.house.specs.Rules.{certify, commit, asker, begun, read_by, written_by, wrote, signals_at, signalled, certified_by, left, stepped}
 use Rattle.house.proofs.Tests.{is, same, clash}
 use Rattle.house.proofs.Levels.{above_itself}
 use Rattle.house.proofs.Effects.{signalled_long, read_cell_other, written_cell_other}
 use Rattle.reach.specs.Signals.{Gives, OnlySignals, SignalsAll, ReadersTold}
 use Rattle.reach.proofs.Law.{Law, clear_has}
-use Rattle.reach.proofs.Turns.{Asker, Turn, refused, waits, begins, reads, writes, certifies, commits, aborts, asks, saves, returns, turn}
+use Rattle.reach.proofs.Turns.{Asker, Turn, refused, waits, begins, reads, writes, certifies, commits, aborts, asks, turn}
 use Rattle.reach.proofs.Changes.{either, read_mine, write_mine, signal_only, signal_reaches, certify_other, certify_signalled, left_other, left_mine, commit_frame}
-use Rattle.reach.proofs.Saves.{save_cells, return_other, return_unsignals}
 use Rattle.reach.proofs.Kept.{kept_law}
 use Rattle.reach.proofs.Opened.{reachable_has}
 
@@ -84,12 +83,6 @@ module _ {h : House} (L : Law h) (q : Request) (p i : ℕ) (b : p < 32) (a : i <
           | inr n ↦ clash (rw (left_other L.sizes h.cells me L.sizes.cells p i b a n) at s) none
         ]
     turn_only e (asks me o A) s = clash s none
-    turn_only e (saves me o A K) s = clash (rw (save_cells _ L K refl) at s) none
-    turn_only e (returns me o A K) s =
-        elim (same p me) [
-          | inl x ↦ clash (return_unsignals L K i a (rw x at s)) (rw x at none)
-          | inr n ↦ clash (rw (return_other L.sizes me q.value p i b a n) at s) none
-        ]
 
   -- ALL
 
@@ -120,13 +113,11 @@ module _ {h : House} (L : Law h) (q : Request) (p i : ℕ) (b : p < 32) (a : i <
     turn_all e (commits me o A K) = rw (left_other L.sizes (signalled commit h me) me (signalled_long L.sizes commit me) p i b a (not_me me A)) (reached commit me o A)
     turn_all e (aborts me o A) = absurd (gives_none 5 o refl refl)
     turn_all e (asks me o A) = absurd (gives_none 6 o refl refl)
-    turn_all e (saves me o A K) = absurd (gives_none 7 o refl refl)
-    turn_all e (returns me o A K) = absurd (gives_none 8 o refl refl)
 
   -- NO CHANGE PASSES A READER BY: only a commit changes items
 
   turn_told : {o : Outcome} → asker h q ≢ At p → has Read (cell_at h.cells p i) ≡ true → item_at o.house.items i ≢ item_at h.items i → Turn h q o → Told o.house
-  unfolding begun read_by written_by certified_by left forgets saved_by returned_by
+  unfolding begun read_by written_by certified_by left
   turn_told other r n (refused x) = absurd (n refl)
   turn_told other r n (waits k z x) = absurd (n refl)
   turn_told other r n (begins me o K) = absurd (n refl)
@@ -140,8 +131,6 @@ module _ {h : House} (L : Law h) (q : Request) (p i : ℕ) (b : p < 32) (a : i <
       ]
   turn_told other r n (aborts me o A) = absurd (n refl)
   turn_told other r n (asks me o A) = absurd (n refl)
-  turn_told other r n (saves me o A K) = absurd (n refl)
-  turn_told other r n (returns me o A K) = absurd (n refl)
 
 pub only_signals : OnlySignals
 unfolding holds

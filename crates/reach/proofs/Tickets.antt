@@ -18,9 +18,8 @@ use Rattle.house.proofs.Tests.{is, clash, and_true, and_no}
 use Rattle.reach.specs.Kept.{Issued, Kept}
 use Rattle.reach.specs.Tickets.{given, among, TicketsOnce}
 use Rattle.reach.proofs.Law.{Law}
-use Rattle.reach.proofs.Turns.{Turn, refused, waits, begins, reads, writes, certifies, commits, aborts, asks, saves, returns, turn}
+use Rattle.reach.proofs.Turns.{Turn, refused, waits, begins, reads, writes, certifies, commits, aborts, asks, turn}
 use Rattle.reach.proofs.Changes.{now_issued, begin_frame, read_frame, write_frame, certify_frame, commit_frame, abort_frame}
-use Rattle.reach.proofs.Saves.{save_frame, return_frame}
 use Rattle.reach.proofs.Kept.{kept_law, step_keeps}
 use Rattle.reach.proofs.Opened.{opening_has}
 
@@ -35,8 +34,6 @@ turn_issued L (certifies me o A K) l t i = (certify_frame L K).issued l t i
 turn_issued L (commits me o A K) l t i = (commit_frame L K.place).issued l t i
 turn_issued L (aborts me o A) l t i = (abort_frame L A.seated.within.place).issued l t i
 turn_issued L (asks me o A) l t i = i
-turn_issued L (saves me o A K) l t i = (save_frame _ L K refl).issued l t i
-turn_issued L (returns me o A K) l t i = (return_frame L K).issued l t i
 
 -- a ticket given between two houses
 record Given (h h' : House) (l t : ℕ) : Type 0 where
@@ -54,8 +51,6 @@ begin_gives L (certifies me o A K) d = clash d (rw o)
 begin_gives L (commits me o A K) d = clash d (rw o)
 begin_gives L (aborts me o A) d = clash d (rw o)
 begin_gives L (asks me o A) d = clash d (rw (o, and_no _))
-begin_gives L (saves me o A K) d = clash d (rw o)
-begin_gives L (returns me o A K) d = clash d (rw o)
 
 -- what has been given out is not given again
 not_again : {h : House} → Kept h → (l t : ℕ) → Issued h l t → (qs : List Request) → among (l, t) (given (trace h qs)) ≡ false

@@ -1,14 +1,14 @@
 -- What a request can do, as cases: it is refused, or it waits, or it is done by the transaction at some place, of which the
 -- checks have left certain facts. Theorems about a step go by these cases and do not look at checks or at searches again.
 -- Assumes nothing.
-use Prim.Native.Nat.{ℕ, ◌+◌, ◌≤◌, ◌<◌}
+use Prim.Native.Nat.{ℕ, ◌<◌}
 use native.Mathlib.Omega.{arith}
 use mathlib.Core.Path.{◌≡◌, refl, sym, ◌∙◌}
 use mathlib.Core.Logic.{◌≢◌, inl, inr}
 use mathlib.Core.Bool.{true, false}
 use lib.Dec.{eqb}
-use borrow.Author.Tests.{eqb-true, eqb-false, eq-eqb, ne_eqb, leb-true, leb-false}
-use Rattle.house.specs.declared.Answer.TheVariants.{Refused, Done, Ticket, Label}
+use borrow.Author.Tests.{eqb-true, eqb-false, eq-eqb, ne_eqb, leb-false}
+use Rattle.house.specs.declared.Answer.TheVariants.{Refused, Done, Ticket}
 use Rattle.house.specs.declared.Found.{Found}
 use Rattle.house.specs.declared.Found.TheVariants.{At, Nobody}
 use Rattle.house.specs.declared.House.{House}
@@ -17,13 +17,12 @@ use Rattle.house.specs.declared.Outcome.{Outcome}
 use Rattle.house.specs.declared.Request.{Request}
 use Rattle.house.specs.declared.Standing.TheVariants.{Active, Certified}
 use Rattle.house.specs.Cell.{has, cell_at, holds, another_holds, is_signalled}
-use Rattle.house.specs.House.{dominates, level_of, item_at, place_at, is_label, next_at, is_free, is_certified, vacancy}
+use Rattle.house.specs.House.{dominates, level_of, item_at, place_at, next_at, is_free, is_certified, vacancy}
 use Rattle.house.specs.Checks.{foremost}
-use Rattle.house.specs.Rules.{begin, asker, uses_item, forbidden, blank_sheet, stopped, untimely, labelless, no_label, worn_out, crowded, ticketless, another_claims, peer_reads, hinders, wants, conflict, holder, refusals, begun, read_by, read_for, written_by, certified_by, committed_by, aborted_by, saved_by, returned_by, ask_answer, outcome, served, performed, named, stepped}
-use Rattle.house.proofs.Operations.{is_begin, is_read, is_write, is_certify, is_commit, is_abort, is_ask, is_save, is_back, not_begin}
-use Rattle.house.proofs.Tests.{same, and_true, or_false, and_right_false, not_is}
+use Rattle.house.specs.Rules.{begin, asker, uses_item, forbidden, blank_sheet, stopped, untimely, worn_out, crowded, ticketless, another_claims, peer_reads, hinders, wants, conflict, holder, refusals, begun, read_by, read_for, written_by, certified_by, committed_by, aborted_by, ask_answer, outcome, served, performed, named, stepped}
+use Rattle.house.proofs.Operations.{is_begin, is_read, is_write, is_certify, is_commit, is_abort, is_ask, not_begin}
+use Rattle.house.proofs.Tests.{same, or_false, and_right_false, not_is}
 use Rattle.house.proofs.Holders.{another_not, conflict_none}
-use Rattle.house.proofs.Labels.{IsLabel, is_label_lem}
 use Rattle.house.proofs.Places.{Seated, seek_at, vacancy_at, is_active_lem, is_certified_lem}
 use Rattle.house.proofs.Checks.{Clear, clear, item_there, somebody, asker_known}
 use Rattle.house.proofs.Steps.{refused_is, waits_is, free_is}
@@ -67,19 +66,6 @@ pub record MayCommit (h : House) (me : ℕ) : Type 0 where
   pub certified : (place_at h.places me).standing ≡ Certified
   pub unsignalled : is_signalled h.cells me ≡ false
 
--- Save, at the next label
-pub record MaySave (h : House) (me : ℕ) : Type 0 where
-  pub place : me < 32
-  pub active : (place_at h.places me).standing ≡ Active
-  pub few : (place_at h.places me).labels < 4
-
--- Return, to label n
-pub record MayReturn (h : House) (me n : ℕ) : Type 0 where
-  pub place : me < 32
-  pub active : (place_at h.places me).standing ≡ Active
-  pub label : IsLabel n
-  pub live : n ≤ (place_at h.places me).labels
-
 -- the transaction that asks is found at `me`, and so is seated there
 pub record Asker (h : House) (q : Request) (me : ℕ) : Type 0 where
   pub at : asker h q ≡ At me
@@ -99,8 +85,6 @@ pub data Turn (h : House) (q : Request) : Outcome → Type 0 where
   commits : (me : ℕ) → q.operation ≡ 4 → Asker h q me → MayCommit h me → Turn h q (outcome (committed_by h me) q Done)
   aborts : (me : ℕ) → q.operation ≡ 5 → Asker h q me → Turn h q (outcome (aborted_by h me) q Done)
   asks : (me : ℕ) → q.operation ≡ 6 → Asker h q me → Turn h q (outcome h q (ask_answer h.cells me))
-  saves : (me : ℕ) → q.operation ≡ 7 → Asker h q me → MaySave h me → Turn h q (outcome (saved_by h me ((place_at h.places me).labels + 1)) q (Label ((place_at h.places me).labels + 1)))
-  returns : (me : ℕ) → q.operation ≡ 8 → Asker h q me → MayReturn h me q.value → Turn h q (outcome (returned_by h me q.value) q Done)
 
 begun_is : (h : House) (q : Request) (me : ℕ) → q.operation ≡ begin → vacancy h.places q.level ≡ At me → performed h q ≡ outcome (begun h q.level me) q (Ticket (next_at h.next q.level))
 unfolding performed
@@ -176,26 +160,6 @@ module _ (h : House) (q : Request) (z : foremost (refusals h q) ≡ 0) where
           unsignalled = rw (o, A.at) at c.unstopped;
         }
 
-    may_save : q.operation ≡ 7 → MaySave h me
-    unfolding untimely labelless
-    may_save o =
-        record {
-          place = A.seated.within.place;
-          active = still_active (rw (o, A.at) at c.timely);
-          few = leb-false 4 _ (rw (o, A.at) at c.labels);
-        }
-
-    may_return : q.operation ≡ 8 → MayReturn h me q.value
-    unfolding untimely no_label
-    may_return o =
-        let known = and_true (is_label q.value) _ (not_is _ (rw (o, A.at) at c.labelled)) in
-        record {
-          place = A.seated.within.place;
-          active = still_active (rw (o, A.at) at c.timely);
-          label = is_label_lem q.value known.0;
-          live = leb-true q.value _ known.1;
-        }
-
   -- the transaction that asks for anything but a begin
   by_asker : q.operation ≢ begin → ((me : ℕ) → Asker h q me → Turn h q (served h q me)) → Turn h q (performed h q)
   unfolding performed
@@ -214,8 +178,6 @@ module _ (h : House) (q : Request) (z : foremost (refusals h q) ≡ 0) where
     | is_commit o ↦ by_asker (not_begin o) (λ me A. yields (commits me o A (may_commit me A (rw A.at at none) o)) (rw o))
     | is_abort o ↦ by_asker (not_begin o) (λ me A. yields (aborts me o A) (rw o))
     | is_ask o ↦ by_asker (not_begin o) (λ me A. yields (asks me o A) (rw o))
-    | is_save o ↦ by_asker (not_begin o) (λ me A. yields (saves me o A (may_save me A (rw A.at at none) o)) (rw o))
-    | is_back o ↦ by_asker (not_begin o) (λ me A. yields (returns me o A (may_return me A (rw A.at at none) o)) (rw o))
   ]
 
   turn_unrefused : (who : Found) → holder h q ≡ who → Turn h q (stepped h q)

@@ -11,10 +11,9 @@ use Rattle.house.specs.Rules.{begin, no_operation, no_level, unused_set, checks,
 use Rattle.reach.specs.Reach.{Reachable}
 use Rattle.reach.specs.Kept.{Open}
 
--- "Order of checks: 3, 4, 5, 6, 7, 8, 2, 9, 10, 11, 12, 1", with 15 "after 8 and before 2" (CR 1), 17 "after 10", and
--- "18 and 19 come after 9" (CR 8)
+-- "Order of checks: 3, 4, 5, 6, 7, 8, 2, 9, 10, 11, 12, 1", with 15 "after 8 and before 2" (CR 1)
 abbrev pub order_of_checks : List ℕ
-order_of_checks = 3 ∷ 4 ∷ 5 ∷ 6 ∷ 7 ∷ 8 ∷ 15 ∷ 2 ∷ 9 ∷ 18 ∷ 19 ∷ 10 ∷ 17 ∷ 11 ∷ 12 ∷ 1 ∷ []
+order_of_checks = 3 ∷ 4 ∷ 5 ∷ 6 ∷ 7 ∷ 8 ∷ 15 ∷ 2 ∷ 9 ∷ 10 ∷ 11 ∷ 12 ∷ 1 ∷ []
 
 -- nobody who is open at the request's level has its ticket
 abbrev pub Stranger : House → Request → Type 0

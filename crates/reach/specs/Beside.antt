@@ -5,7 +5,7 @@ use Rattle.std.specs.Prelude.{ℕ, ◌<◌, ◌≡◌, ◌≢◌, true, false}
 use Rattle.house.specs.declared.House.{House}
 use Rattle.house.specs.declared.Request.{Request}
 use Rattle.house.specs.Cell.{cell_at}
-use Rattle.house.specs.House.{Sizes, dominates, above, level_of, item_at, place_at, is_label, at_label}
+use Rattle.house.specs.House.{Sizes, dominates, above, level_of, item_at, place_at}
 use Rattle.house.specs.Rules.{read, certify, stepped}
 
 -- THE STATEMENTS, proved in proofs/Beside.antt and proofs/Holder.antt
@@ -14,13 +14,12 @@ use Rattle.house.specs.Rules.{read, certify, stepped}
 abbrev pub ReadsBelow : Type 0
 ReadsBelow = (h : House) (q : Request) → q.operation ≡ read → (stepped h q).reply.number ≡ 0 → dominates h.order q.level (item_at h.items q.item).level ≡ true
 
--- a request touches no place, no count and no cell but those of its own level and of levels above it
+-- a request touches no place and no cell but those of its own level and of levels above it
 abbrev pub ReachesUp : Type 0
 ReachesUp =
     (h : House) → Sizes h → (q : Request) (p : ℕ) → p < 32 → level_of p ≢ q.level → above h.order (level_of p) q.level ≡ false
     → let h' = (stepped h q).house in
-    (place_at h'.places p ≡ place_at h.places p) × ((n : ℕ) → is_label n ≡ true → at_label h'.counts p n ≡ at_label h.counts p n)
-    × ((i : ℕ) → i < 64 → cell_at h'.cells p i ≡ cell_at h.cells p i)
+    (place_at h'.places p ≡ place_at h.places p) × ((i : ℕ) → i < 64 → cell_at h'.cells p i ≡ cell_at h.cells p i)
 
 -- a certify waits for its own level alone: a delay's reply has the holder's level in its version field
 abbrev pub WaitsForPeers : Type 0

@@ -12,7 +12,7 @@ use Rattle.house.specs.declared.Rule.TheVariants.{A}
 use Rattle.house.specs.declared.Standing.TheVariants.{Certified}
 use Rattle.house.specs.Search.{if_found, map_from}
 use Rattle.house.specs.Cell.{has, marked, unmarked, map_cells, holds}
-use Rattle.house.specs.House.{level_of, item_at, place_at, with_standing, with_items, with_place, with_cells}
+use Rattle.house.specs.House.{level_of, item_at, place_at, with_items, with_place, with_cells}
 use Rattle.house.specs.Checks.{foremost}
 use Rattle.house.specs.Order.{old_chain}
 use Rattle.house.specs.Rules.{begin, read, write, certify, commit, ◌does◌, asker, delayed, refusals, committed_item, aborted_by, outcome, served, performed, unserved}
@@ -41,7 +41,7 @@ old_certified_cell cells me p i c =
     c
 
 unfoldable pub old_certified_by : House → ℕ → House
-old_certified_by h me = with_place (with_cells h (map_cells (old_certified_cell h.cells me) h.cells)) me (with_standing (place_at h.places me) Certified)
+old_certified_by h me = with_place (with_cells h (map_cells (old_certified_cell h.cells me) h.cells)) me (record { standing = Certified; ticket = (place_at h.places me).ticket })
 
 -- Commit: "Each item with its certify lock takes the pending value, and its version grows by one, however often it was written"; and
 -- then as an abort
@@ -69,7 +69,7 @@ old_stepped h q =
 
 -- a house with another table and another rule
 abbrev pub with_terms : House → List ℕ → Rule → House
-with_terms h order rule = record { count = h.count; order = order; rule = rule; items = h.items; pending = h.pending; places = h.places; next = h.next; cells = h.cells; saved = h.saved; counts = h.counts }
+with_terms h order rule = record { count = h.count; order = order; rule = rule; items = h.items; pending = h.pending; places = h.places; next = h.next; cells = h.cells }
 
 -- THE STATEMENTS, proved in proofs/Chain.antt
 

@@ -2,12 +2,12 @@
 -- number is held to 64 as well as to the count. In a house that can be reached neither decides. Two guards more, that a done request
 -- which finds no place is refused, and that a delay without a holder names nobody, decide in no house at all.
 -- Assumes nothing.
-use Rattle.std.specs.Prelude.{ℕ, ◌+◌, ◌%◌, ◌<◌, ◌≡◌, true, ◌&&◌, leb}
+use Rattle.std.specs.Prelude.{ℕ, ◌+◌, ◌<◌, ◌≡◌, true, ◌&&◌, leb}
 use Rattle.house.specs.declared.Found.TheVariants.{At}
 use Rattle.house.specs.declared.House.{House}
 use Rattle.house.specs.declared.Request.{Request}
-use Rattle.house.specs.House.{item_at, place_at}
-use Rattle.house.specs.Rules.{asking, uses_item, no_item, wrote, holder, verdict, grown, tallied, outcome, named, stepped}
+use Rattle.house.specs.House.{item_at}
+use Rattle.house.specs.Rules.{uses_item, no_item, wrote, holder, verdict, grown, outcome, named, stepped}
 use Rattle.reach.specs.Reach.{Reachable}
 
 pub record Unguarded (h : House) : Type 0 where
@@ -15,10 +15,6 @@ pub record Unguarded (h : House) : Type 0 where
   pub grows : (p i : ℕ) → p < 32 → i < 64 → wrote h.cells p i ≡ true → grown (item_at h.items i).version ≡ (item_at h.items i).version + 1
   -- the count alone says which items there are
   pub counted : (q : Request) → no_item h q ≡ (uses_item q && leb h.count q.item)
-  -- at a done read or write the count grows by one, where it is counted
-  pub tallies : (q : Request) → verdict h q ≡ 0 → uses_item q ≡ true → tallied (asking h q).count ≡ (asking h q).count + 1
-  -- and how many labels there are fits above the marks of a cell
-  pub fits : (p : ℕ) → p < 32 → (place_at h.places p).labels % 16 ≡ (place_at h.places p).labels
 
 -- THE STATEMENTS, proved in proofs/Guards.antt
 

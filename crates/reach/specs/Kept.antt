@@ -6,8 +6,8 @@ use Rattle.house.specs.declared.Mark.TheVariants.{Read, Write, Certify, Signalle
 use Rattle.house.specs.declared.Request.{Request}
 use Rattle.house.specs.declared.Rule.{Rule}
 use Rattle.house.specs.declared.Rule.TheVariants.{A}
-use Rattle.house.specs.Cell.{since, cell_at, holds}
-use Rattle.house.specs.House.{Sizes, dominates, above, level_of, blank, vacant, item_at, pending_at, place_at, is_label, at_label, next_at, is_free, is_active, is_certified}
+use Rattle.house.specs.Cell.{cell_at, holds}
+use Rattle.house.specs.House.{Sizes, dominates, above, level_of, blank, item_at, pending_at, place_at, next_at, is_free, is_active, is_certified}
 use Rattle.house.specs.Order.{PartialOrder}
 use Rattle.house.specs.Rules.{wrote, stepped}
 use Rattle.house.specs.Opening.{opening}
@@ -21,10 +21,9 @@ Open h p = is_free (place_at h.places p).standing ≡ false
 unfoldable pub Issued : House → ℕ → ℕ → Type 0
 Issued h l t = next_at h.next l ≢ 0 → t < next_at h.next l
 
--- Items are i < 64 and places p, r < 32 throughout, and a label n is one of 1 to 4
+-- Items are i < 64 and places p, r < 32 throughout
 pub record Kept (h : House) : Type 0 where
-  -- the lists are as long as the arrays: 16 bytes of the order, 64 items, 64 pending values, 32 places, 4 next tickets, 2,048 cells,
-  -- 256 saved values, 128 counts
+  -- the lists are as long as the arrays: 16 bytes of the order, 64 items, 64 pending values, 32 places, 4 next tickets, 2,048 cells
   pub sizes : Sizes h
   -- which levels dominate which is a partial order
   pub order : PartialOrder h.order
@@ -39,22 +38,9 @@ pub record Kept (h : House) : Type 0 where
   pub pending : (i : ℕ) → i < 64 → ((p : ℕ) → p < 32 → wrote h.cells p i ≡ false) → pending_at h.pending i ≡ 0
   -- and not 0 when somebody has: what is written is no blank sheet
   pub drawn : (p i : ℕ) → p < 32 → i < 64 → wrote h.cells p i ≡ true → pending_at h.pending i ≢ 0
-  -- when nobody has written an item nothing is saved of it; when somebody has, only at labels that it has
-  pub unsaved : (i n : ℕ) → i < 64 → is_label n ≡ true → ((p : ℕ) → p < 32 → wrote h.cells p i ≡ false) → at_label h.saved i n ≡ 0
-  pub later : (p i n : ℕ) → p < 32 → i < 64 → is_label n ≡ true → wrote h.cells p i ≡ true → (place_at h.places p).labels < n → at_label h.saved i n ≡ 0
-  -- and what it had not written at a label, it had not at any before: the saved value is 0
-  pub rising : (p i k n : ℕ) → p < 32 → i < 64 → is_label k ≡ true → wrote h.cells p i ≡ true → k ≤ n → n ≤ (place_at h.places p).labels → at_label h.saved i n ≡ 0 → at_label h.saved i k ≡ 0
   -- THE PLACES
-  -- a free place is vacant: ticket 0, no labels and no count
-  pub vacated : (p : ℕ) → p < 32 → is_free (place_at h.places p).standing ≡ true → place_at h.places p ≡ vacant
-  -- nobody has more than four labels
-  pub labels : (p : ℕ) → p < 32 → (place_at h.places p).labels ≤ 4
-  -- the count is at most 32, and so it was at each label
-  pub counted : (p : ℕ) → p < 32 → (place_at h.places p).count ≤ 32
-  pub counts : (p n : ℕ) → p < 32 → is_label n ≡ true → at_label h.counts p n ≤ 32
-  -- who has no label has no count, and a label that is not there has none
-  pub uncounted : (p : ℕ) → p < 32 → (place_at h.places p).labels ≡ 0 → (place_at h.places p).count ≡ 0
-  pub forgotten : (p n : ℕ) → p < 32 → is_label n ≡ true → (place_at h.places p).labels < n → at_label h.counts p n ≡ 0
+  -- a free place has ticket 0
+  pub ticketless : (p : ℕ) → p < 32 → is_free (place_at h.places p).standing ≡ true → (place_at h.places p).ticket ≡ 0
   -- nobody's ticket is 0
   pub named : (p : ℕ) → p < 32 → Open h p → (place_at h.places p).ticket ≢ 0
   -- no two transactions have one name
@@ -70,9 +56,6 @@ pub record Kept (h : House) : Type 0 where
   pub inside : (p i : ℕ) → p < 32 → i < 64 → h.count ≤ i → cell_at h.cells p i ≡ 0
   -- read locks are on dominated items only
   pub below : (p i : ℕ) → p < 32 → i < 64 → holds h.cells Read p i ≡ true → dominates h.order (level_of p) (item_at h.items i).level ≡ true
-  -- a read lock was first taken at no more labels than there are; where there is none, that number is 0
-  pub locked : (p i : ℕ) → p < 32 → i < 64 → since (cell_at h.cells p i) ≤ (place_at h.places p).labels
-  pub unread : (p i : ℕ) → p < 32 → i < 64 → holds h.cells Read p i ≡ false → since (cell_at h.cells p i) ≡ 0
   -- write and certify locks are at the item's level
   pub owned : (p i : ℕ) → p < 32 → i < 64 → wrote h.cells p i ≡ true → (item_at h.items i).level ≡ level_of p
   -- at most one transaction holds write or certify on an item

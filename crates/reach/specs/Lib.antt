@@ -13,4 +13,3 @@ pub mod Tickets
 pub mod Beside
 pub mod Chain
 pub mod Signals
-pub mod Returns

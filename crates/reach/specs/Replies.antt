@@ -3,7 +3,7 @@
 -- item field the lowest signalled item of the asker and in the value field how many are signalled (both 0 when none)." "In a delay's
 -- reply the value field carries the holder's ticket and the version field its level" (CR 5).
 -- Assumes nothing.
-use Rattle.std.specs.Prelude.{ℕ, ◌+◌, ◌≡◌, Bool, false, cond, eqb}
+use Rattle.std.specs.Prelude.{ℕ, ◌≡◌, Bool, false, cond, eqb}
 use Rattle.house.specs.declared.House.{House}
 use Rattle.house.specs.declared.Mark.TheVariants.{Write}
 use Rattle.house.specs.declared.Reply.{Reply}
@@ -11,7 +11,7 @@ use Rattle.house.specs.declared.Request.{Request}
 use Rattle.house.specs.Search.{if_found}
 use Rattle.house.specs.Cell.{holds, first_signalled, count_signalled}
 use Rattle.house.specs.House.{level_of, item_at, pending_at, place_at, next_at}
-use Rattle.house.specs.Rules.{begin, read, ask, save, asker, asking, holder, verdict, grown, stepped}
+use Rattle.house.specs.Rules.{begin, read, ask, asker, holder, verdict, grown, stepped}
 use Rattle.house.specs.Run.{done}
 
 -- What the exceptions carry
@@ -44,17 +44,13 @@ holder_ticket h q = if_found (holder h q) (λ p. (place_at h.places p).ticket) 0
 abbrev pub holder_level : House → Request → ℕ
 holder_level h q = if_found (holder h q) level_of 0
 
--- "the lowest free label" (CR 8): one more than there are
-abbrev pub new_label : House → Request → ℕ
-new_label h q = (asking h q).labels + 1
-
 -- The six fields of a reply r to the request q. Its number says whether q was done, or delayed
 pub record Whole (h : House) (q : Request) (r : Reply) : Type 0 where
   pub number : r.number ≡ verdict h q
   pub operation : r.operation ≡ q.operation
   pub item : r.item ≡ cond (done (q, r) ask) (lowest_signalled h q) q.item
   pub ticket : r.ticket ≡ cond (done (q, r) begin) (new_ticket h q) q.ticket
-  pub value : r.value ≡ cond (eqb r.number 1) (holder_ticket h q) (cond (done (q, r) read) (value_read h q) (cond (done (q, r) ask) (how_many h q) (cond (done (q, r) save) (new_label h q) 0)))
+  pub value : r.value ≡ cond (eqb r.number 1) (holder_ticket h q) (cond (done (q, r) read) (value_read h q) (cond (done (q, r) ask) (how_many h q) 0))
   pub version : r.version ≡ cond (eqb r.number 1) (holder_level h q) (cond (done (q, r) read) (version_read h q) 0)
 
 -- THE STATEMENT, proved in proofs/Replies.antt

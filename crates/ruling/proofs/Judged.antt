@@ -25,7 +25,7 @@ use Rattle.house.specs.Cell.{holds}
 use Rattle.house.specs.House.{blank, vacant, item_at, pending_at, place_at, next_at, free_at, has_ticket, seek, vacancy}
 use Rattle.house.specs.Rules.{begin, certify, ◌does◌, asker, no_operation, no_level, unused_set, uses_item, hinders, wants, holder_on, conflict, holder, refusals}
 use Rattle.house.proofs.Unfolding.{tests}
-use Rattle.house.proofs.Operations.{operation_of, is_begin, is_read, is_write, is_certify, is_commit, is_abort, is_ask, is_save, is_back}
+use Rattle.house.proofs.Operations.{operation_of, is_begin, is_read, is_write, is_certify, is_commit, is_abort, is_ask}
 use Rattle.house.proofs.Tests.{is, same, and_true, or_right}
 use Rattle.house.proofs.Checks.{numbered, there, level_there}
 use Rattle.house.proofs.Searches.{any_find, none_found, scan_same, scan_first}
@@ -38,7 +38,7 @@ use Rattle.ruling.specs.declared.Ruling.{Ruling}
 use Rattle.ruling.specs.declared.Ruling.TheVariants.{Refuse, Wait, Grant}
 use Rattle.ruling.specs.declared.View.{View}
 use Rattle.ruling.specs.Ruling.{granted, ruled}
-use Rattle.ruling.specs.Judged.{Shown, Judged, found, chain, lowest_holder, waits_at, certify_holder, begin_ruled, read_ruled, write_ruled, certify_ruled, commit_ruled, save_ruled, back_ruled, known_ruled}
+use Rattle.ruling.specs.Judged.{Shown, Judged, found, chain, lowest_holder, waits_at, certify_holder, begin_ruled, read_ruled, write_ruled, certify_ruled, commit_ruled, known_ruled}
 
 -- The checks one by one: the refusal of the first that applies, or what is ruled where none does
 
@@ -162,7 +162,7 @@ module _ (h : House) (q : Request) where
     on_none = conflict_never h.cells q me
 
     known_ruled_lem : no_operation q ≡ false → q.operation ≢ begin → rest ≡ known_ruled case h.cells
-    unfolding tests granted known_ruled read_ruled write_ruled certify_ruled commit_ruled save_ruled back_ruled
+    unfolding tests granted known_ruled read_ruled write_ruled certify_ruled commit_ruled
     known_ruled_lem n b = elim (operation_of q n) [
       | is_begin o ↦ absurd (b o)
       | is_read o ↦ elim (is lacks) [ inl e ↦ simp (at, o, e) | inr e ↦ simp (at, on_item_lem (rw o) e, o) ]
@@ -171,15 +171,13 @@ module _ (h : House) (q : Request) where
       | is_commit o ↦ simp (at, on_none (rw o) (rw o), o)
       | is_abort o ↦ simp (at, on_none (rw o) (rw o), o)
       | is_ask o ↦ simp (at, on_none (rw o) (rw o), o)
-      | is_save o ↦ simp (at, on_none (rw o) (rw o), o)
-      | is_back o ↦ simp (at, on_none (rw o) (rw o), o)
     ]
 
 -- The row and the pending value of an item that the house has not are not looked at
 
 module _ (q : Request) (me : ℕ) where
   row_unseen : (count v v' : ℕ) (order : List ℕ) (x x' : Item) (s : Place) (cells : List ℕ) → leb 64 q.item ≡ true → known_ruled (made count order x v s q me) cells ≡ known_ruled (made count order x' v' s q me) cells
-  unfolding known_ruled read_ruled write_ruled certify_ruled commit_ruled save_ruled back_ruled
+  unfolding known_ruled read_ruled write_ruled certify_ruled commit_ruled
   row_unseen count v v' order x x' s cells e = let none : (leb count q.item || leb 64 q.item) ≡ true = or_right (leb count q.item) _ e in rw none
 
   case_same : {count count' v v' : ℕ} {x x' : Item} {s s' : Place} {order order' cells cells' : List ℕ}
@@ -252,8 +250,6 @@ module _ (v : View) (cells : List ℕ) (q : Request) where
         places = replicate (q.level * 8) vacant ++ v.eight;
         next = replicate q.level 0 ++ v.ticket ∷ [];
         cells = cells;
-        saved = [];
-        counts = [];
       }
 
   witness : Shown some q v cells

@@ -1,30 +1,28 @@
 -- The ruling of a request and the change made of it are the step of the rules.
 -- Assumes nothing.
-use Prim.Native.Nat.{ℕ, ◌+◌, ◌<◌}
-use native.Mathlib.Omega.{arith}
+use Prim.Native.Nat.{ℕ, ◌<◌}
 use mathlib.Core.Path.{◌≡◌, refl, ◌∙◌}
 use mathlib.Core.Logic.{◌≢◌, inl, inr}
 use mathlib.Core.Bool.{true, false}
 use lib.Dec.{ltb}
-use borrow.Author.Tests.{eq-eqb, ne_eqb, lt-ltb, leb-false}
+use borrow.Author.Tests.{eq-eqb, ne_eqb, lt-ltb}
 use Rattle.house.specs.declared.Found.{Found}
 use Rattle.house.specs.declared.Found.TheVariants.{At, Nobody}
 use Rattle.house.specs.declared.House.{House}
 use Rattle.house.specs.declared.Request.{Request}
-use Rattle.house.specs.House.{Sizes, place_at, is_label, vacancy}
+use Rattle.house.specs.House.{Sizes, vacancy}
 use Rattle.house.specs.Checks.{foremost}
 use Rattle.house.specs.Search.{if_found}
-use Rattle.house.specs.Rules.{begin, save, back, asker, uses_item, labelless, no_label, crowded, holder, refusals, outcome, served, performed, stepped}
-use Rattle.house.proofs.Operations.{is_begin, is_read, is_write, is_certify, is_commit, is_abort, is_ask, is_save, is_back, not_begin}
-use Rattle.house.proofs.Tests.{same, and_true, and_intro, not_is}
-use Rattle.house.proofs.Labels.{label_is}
+use Rattle.house.specs.Rules.{begin, asker, uses_item, crowded, holder, refusals, outcome, served, performed, stepped}
+use Rattle.house.proofs.Operations.{is_begin, is_read, is_write, is_certify, is_commit, is_abort, is_ask, not_begin}
+use Rattle.house.proofs.Tests.{same, and_intro}
 use Rattle.house.proofs.Places.{seek_at, vacancy_at}
-use Rattle.house.proofs.Effects.{begun_sizes, read_sizes, written_sizes, certified_sizes, left_sizes, committed_sizes, saved_sizes, returned_sizes}
+use Rattle.house.proofs.Effects.{begun_sizes, read_sizes, written_sizes, certified_sizes, left_sizes, committed_sizes}
 use Rattle.house.proofs.Checks.{Clear, clear, item_there, somebody, asker_known}
 use Rattle.house.proofs.Steps.{refused_is, waits_is, free_is}
 use Rattle.house.proofs.Holders.{holder_at}
 use Rattle.ruling.specs.declared.Change.{Change}
-use Rattle.ruling.specs.declared.Change.TheVariants.{Nothing, Begin, Read, Write, Certify, End, Save, Return}
+use Rattle.ruling.specs.declared.Change.TheVariants.{Nothing, Begin, Read, Write, Certify, End}
 use Rattle.ruling.specs.declared.Ruling.{Ruling}
 use Rattle.ruling.specs.declared.Ruling.TheVariants.{Wait}
 use Rattle.ruling.specs.Ruling.{effect, answer_of, change_of, ruling_fits, granted, ruled}
@@ -54,17 +52,6 @@ module _ (h : House) (q : Request) (unrefused : foremost (refusals h q) ≡ 0) w
       let who = asker_known h q o unrefused in
       made who.0 who.1 (lt-ltb _ 32 (seek_at h.places q.level q.ticket who.0 c.level who.1).within.place)
 
-  -- so does a save, and a return, a label
-  save_label : {me : ℕ} → q.operation ≡ save → asker h q ≡ At me → is_label ((place_at h.places me).labels + 1) ≡ true
-  unfolding labelless
-  save_label {me} o at =
-      let few = leb-false 4 (place_at h.places me).labels (rw (o, at) at c.labels) in
-      label_is _ (record { some = λ z. omega arith; few = omega arith })
-
-  back_label : q.operation ≡ back → is_label q.value ≡ true
-  unfolding no_label
-  back_label o = (and_true _ _ (not_is _ (rw o at c.labelled))).0
-
   done_made : Made
   unfolding performed granted served
   done_made = elim c.operation [
@@ -75,8 +62,6 @@ module _ (h : House) (q : Request) (unrefused : foremost (refusals h q) ≡ 0) w
     | is_commit o ↦ by_asker (not_begin o) (λ me at b. rw (o, at) (refl, b))
     | is_abort o ↦ by_asker (not_begin o) (λ me at b. rw (o, at) (refl, b))
     | is_ask o ↦ by_asker (not_begin o) (λ me at b. rw (o, at) (refl, refl))
-    | is_save o ↦ by_asker (not_begin o) (λ me at b. rw (o, at) (refl, and_intro _ _ b (save_label o at)))
-    | is_back o ↦ by_asker (not_begin o) (λ me at b. rw (o, at) (refl, and_intro _ _ b (back_label o)))
   ]
 
 -- so the ruling, with the effect of its change, is the step of the rules, and names what the house has
@@ -110,8 +95,6 @@ effect_sizes z (Write me i v) = written_sizes z me i v
 effect_sizes z (Certify me) = certified_sizes z me
 effect_sizes z (End me true) = committed_sizes z me
 effect_sizes z (End me false) = left_sizes z _ me z.cells
-effect_sizes z (Save me n) = saved_sizes z me n
-effect_sizes z (Return me n) = returned_sizes z me n
 
 pub stepped_sizes : (h : House) → Sizes h → (q : Request) → Sizes (stepped h q).house
 stepped_sizes h z q = rw (ruled_steps h q) (effect_sizes z (change_of (ruled h q)))

@@ -1,7 +1,7 @@
 -- What the judge is shown of a house, and its rulings over that alone.
 -- Assumes nothing.
 use Rattle.std.specs.Prelude.{ℕ, ◌+◌, ◌*◌, ◌<◌, ◌≡◌, Bool, true, false, not, cond, ◌&&◌, ◌||◌, List, [], ◌∷◌, eqb, leb}
-use Rattle.house.specs.declared.Answer.TheVariants.{Done, Ticket, Label}
+use Rattle.house.specs.declared.Answer.TheVariants.{Done, Ticket}
 use Rattle.house.specs.declared.Found.{Found}
 use Rattle.house.specs.declared.Found.TheVariants.{Nobody}
 use Rattle.house.specs.declared.House.{House}
@@ -9,8 +9,8 @@ use Rattle.house.specs.declared.Mark.TheVariants.{Write}
 use Rattle.house.specs.declared.Request.{Request}
 use Rattle.house.specs.Search.{any, find, if_found}
 use Rattle.house.specs.Cell.{holds, is_signalled}
-use Rattle.house.specs.House.{dominates, item_at, pending_at, place_at, is_label, next_at, is_active, is_certified}
-use Rattle.house.specs.Rules.{read, write, certify, commit, abort, ask, save, ◌does◌, hinders, read_answer, ask_answer}
+use Rattle.house.specs.House.{dominates, item_at, pending_at, place_at, next_at, is_active, is_certified}
+use Rattle.house.specs.Rules.{read, write, certify, commit, abort, ◌does◌, hinders, read_answer, ask_answer}
 use Rattle.ruling.specs.declared.Case.{Case}
 use Rattle.ruling.specs.declared.Change.TheVariants as Change
 use Rattle.ruling.specs.declared.Ruling.{Ruling}
@@ -65,7 +65,6 @@ read_checks c cells =
     ∷ (8, not (dominates c.order c.request.level c.row.level))
     ∷ (2, is_signalled cells c.me)
     ∷ (9, is_certified c.seat.standing)
-    ∷ (17, leb 32 c.seat.count)
     ∷ []
 
 unfoldable pub read_ruled : Case → List ℕ → Ruling
@@ -84,7 +83,6 @@ write_checks c cells =
     ∷ (2, is_signalled cells c.me)
     ∷ (9, is_certified c.seat.standing)
     ∷ (10, leb 4294967295 c.row.version)
-    ∷ (17, leb 32 c.seat.count)
     ∷ []
 
 unfoldable pub write_ruled : Case → List ℕ → Ruling
@@ -109,18 +107,6 @@ commit_checks c cells = (2, is_signalled cells c.me) ∷ (9, is_active c.seat.st
 unfoldable pub commit_ruled : Case → List ℕ → Ruling
 commit_ruled c cells = chain (commit_checks c cells) (Grant Done (Change.End c.me true))
 
-abbrev pub save_checks : Case → List ℕ → List (ℕ × Bool)
-save_checks c cells = (2, is_signalled cells c.me) ∷ (9, is_certified c.seat.standing) ∷ (18, leb 4 c.seat.labels) ∷ []
-
-unfoldable pub save_ruled : Case → List ℕ → Ruling
-save_ruled c cells = let n = c.seat.labels + 1 in chain (save_checks c cells) (Grant (Label n) (Change.Save c.me n))
-
-abbrev pub back_checks : Case → List (ℕ × Bool)
-back_checks c = let n = c.request.value in (9, is_certified c.seat.standing) ∷ (19, not (is_label n && leb n c.seat.labels)) ∷ []
-
-unfoldable pub back_ruled : Case → Ruling
-back_ruled c = chain (back_checks c) (Grant Done (Change.Return c.me c.request.value))
-
 unfoldable pub known_ruled : Case → List ℕ → Ruling
 known_ruled c cells =
     cond (c.request does read) (read_ruled c cells)
@@ -128,6 +114,4 @@ known_ruled c cells =
     (cond (c.request does certify) (certify_ruled c cells)
     (cond (c.request does commit) (commit_ruled c cells)
     (cond (c.request does abort) (Grant Done (Change.End c.me false))
-    (cond (c.request does ask) (Grant (ask_answer cells c.me) Change.Nothing)
-    (cond (c.request does save) (save_ruled c cells)
-    (back_ruled c)))))))
+    (Grant (ask_answer cells c.me) Change.Nothing)))))

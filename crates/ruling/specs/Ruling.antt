@@ -1,17 +1,17 @@
 -- A step in two parts: what is ruled of a request, and the change made of it. `ruled_steps` (proofs/Steps.antt) says that
 -- together they are the step of the rules.
 -- Assumes nothing.
-use Rattle.std.specs.Prelude.{ℕ, ◌+◌, Bool, true, false, cond, ◌&&◌, eqb, ltb}
+use Rattle.std.specs.Prelude.{ℕ, Bool, true, false, cond, ◌&&◌, eqb, ltb}
 use Rattle.house.specs.declared.Answer.{Answer}
-use Rattle.house.specs.declared.Answer.TheVariants.{Refused, Done, Ticket, Label}
+use Rattle.house.specs.declared.Answer.TheVariants.{Refused, Done, Ticket}
 use Rattle.house.specs.declared.House.{House}
 use Rattle.house.specs.declared.Request.{Request}
 use Rattle.house.specs.Search.{if_found}
 use Rattle.house.specs.Checks.{foremost}
-use Rattle.house.specs.House.{is_label, place_at, next_at, vacancy}
-use Rattle.house.specs.Rules.{begin, read, write, certify, commit, abort, ask, save, ◌does◌, asker, holder, refusals, begun, read_by, read_for, written_by, certified_by, committed_by, aborted_by, saved_by, returned_by, ask_answer, named}
+use Rattle.house.specs.House.{next_at, vacancy}
+use Rattle.house.specs.Rules.{begin, read, write, certify, commit, abort, ◌does◌, asker, holder, refusals, begun, read_by, read_for, written_by, certified_by, committed_by, aborted_by, ask_answer, named}
 use Rattle.ruling.specs.declared.Change.{Change}
-use Rattle.ruling.specs.declared.Change.TheVariants.{Nothing, Begin, Read, Write, Certify, End, Save, Return}
+use Rattle.ruling.specs.declared.Change.TheVariants.{Nothing, Begin, Read, Write, Certify, End}
 use Rattle.ruling.specs.declared.Ruling.{Ruling}
 use Rattle.ruling.specs.declared.Ruling.TheVariants.{Refuse, Wait, Grant}
 
@@ -28,10 +28,8 @@ effect h (Read me i) = read_by h me i
 effect h (Write me i v) = written_by h me i v
 effect h (Certify me) = certified_by h me
 effect h (End me commits) = ended_by commits h me
-effect h (Save me n) = saved_by h me n
-effect h (Return me n) = returned_by h me n
 
--- the change names a level, a place, an item and a label that a house has
+-- the change names a level, a place and an item that a house has
 abbrev pub fits : Change → Bool
 fits Nothing = true
 fits (Begin l me) = ltb l 4 && ltb me 32
@@ -39,8 +37,6 @@ fits (Read me i) = ltb me 32 && ltb i 64
 fits (Write me i v) = ltb me 32 && ltb i 64
 fits (Certify me) = ltb me 32
 fits (End me commits) = ltb me 32
-fits (Save me n) = ltb me 32 && is_label n
-fits (Return me n) = ltb me 32 && is_label n
 
 -- any other leaves the house as it was
 unfoldable pub effect_if_fit : House → Change → House
@@ -74,9 +70,7 @@ granted h q =
     (cond (q does certify) (Grant Done (Certify me))
     (cond (q does commit) (Grant Done (End me true))
     (cond (q does abort) (Grant Done (End me false))
-    (cond (q does ask) (Grant (ask_answer h.cells me) Nothing)
-    (cond (q does save) (let n = (place_at h.places me).labels + 1 in Grant (Label n) (Save me n))
-    (Grant Done (Return me q.value)))))))))
+    (Grant (ask_answer h.cells me) Nothing))))))
     (Refuse 6))
 
 -- a refusal, then a delay where somebody holds the lock, then what is granted

@@ -17,9 +17,6 @@ pub enum Change {
     Certify(usize),
     // the place, and whether it commits
     End(usize, bool),
-    // the place, and the label
-    Save(usize, u8),
-    Return(usize, u8),
 }
 
 #[derive(Drop)]

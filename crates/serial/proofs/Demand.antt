@@ -14,23 +14,21 @@ use Rattle.house.specs.Rules.{commit, stepped}
 use Rattle.house.specs.Opening.{opening}
 use Rattle.house.specs.Run.{finally, done, Name}
 use Rattle.house.proofs.Tests.{is, clash}
-use Rattle.house.proofs.Labels.{is_label_lem, label_is}
 use Rattle.house.proofs.Lists.{map_from_same}
 use Rattle.reach.proofs.Law.{clear_law}
-use Rattle.reach.proofs.Opened.{opening_has, opening_free, opening_unsaved}
-use Rattle.serial.specs.Demand.{Event, trace, wrote, name, doing, saving, returning, Progress, onward, progress, work, commits, Row, Table, table, answer, answers, look, run, serially, Demand3, Untouched, OfUntouched, OfOpened}
-use Rattle.serial.proofs.Past.{Past, works, doings, shown, alone, Repeats, serial, Serial}
+use Rattle.reach.proofs.Opened.{opening_has, opening_free}
+use Rattle.serial.specs.Demand.{Event, trace, wrote, name, doing, work, commits, Row, Table, table, answer, answers, look, run, serially, Demand3, Untouched, OfUntouched, OfOpened}
+use Rattle.serial.proofs.Past.{Past, doings, shown, alone, Repeats, serial, Serial}
 use Rattle.serial.proofs.Step.{Closed, Known, step_known}
 
 -- Where it starts
 
 untouched_known : {h : House} → Untouched h → Known (table h) h []
-unfolding serial works
+unfolding serial doings
 untouched_known U =
     record {
-      law = clear_law U.sizes U.free U.clear (λ i n a N. U.unsaved i n a (label_is n N));
+      law = clear_law U.sizes U.free U.clear;
       told = λ p b x. clash (U.free p b) x;
-      told_at = λ p b x. clash (U.free p b) x;
       unheard = λ l n b x y. refl;
       ends = refl;
       repeats = tt;
@@ -41,7 +39,7 @@ pub opening_untouched : (levels table : List ℕ) (rule : Rule) → Untouched (o
 opening_untouched levels table rule =
     let K = opening_has levels table rule in
     let free = opening_free levels table rule in
-    record { sizes = K.sizes; free = free; clear = λ p i b a. K.idle p i b a (free p b); unsaved = λ i n a N. opening_unsaved levels table rule i n a (is_label_lem n N) }
+    record { sizes = K.sizes; free = free; clear = λ p i b a. K.idle p i b a (free p b) }
 
 -- and where it comes to: the past is the trace, turned round
 known : {t : Table} {h : House} {past : Past} → Known t h past → (qs : List Request) → Known t (finally h qs) (reverse_aux (trace h qs) past)
@@ -50,6 +48,11 @@ known I [] = I
 known I (q ∷ qs) = known (step_known I q) qs
 
 -- What is picked from a trace, of two traces
+
+work_append : (n : Name) (xs ys : List Event) → work n (xs ++ ys) ≡ work n xs ++ work n ys
+unfolding work
+work_append n [] ys = refl
+work_append n (e ∷ xs) ys = elim (is (doing n e)) [ inl x ↦ rw x (ap (λ l. e ∷ l) (work_append n xs ys)) | inr x ↦ rw x (work_append n xs ys) ]
 
 commits_append : (xs ys : List Event) → commits (xs ++ ys) ≡ commits xs ++ commits ys
 unfolding commits
@@ -65,36 +68,15 @@ map_append : {A B : Type 0} (f : A → B) (xs ys : List A) → map f (xs ++ ys) 
 map_append f [] ys = refl
 map_append f (x ∷ xs) ys = ap (λ l. f x ∷ l) (map_append f xs ys)
 
--- going through the trace, and through the past
-abbrev Turned : Progress → Past × (ℕ → Past) → Type 0
-Turned w v = (w.0 ≡ reverse v.0) × ((label : ℕ) → w.1 label ≡ reverse (v.1 label))
-
-progress_append : (n : Name) (w : Progress) (xs ys : List Event) → progress n w (xs ++ ys) ≡ progress n (progress n w xs) ys
-unfolding progress
-progress_append n w [] ys = refl
-progress_append n w (e ∷ xs) ys = progress_append n (onward n w e) xs ys
-
-onward_turned : (n : Name) (w : Progress) (e : Event) (past : Past) → Turned w (works n past) → Turned (onward n w e) (works n (e ∷ past))
-unfolding onward works
-onward_turned n w e past t =
-    elim (is (doing n e)) [
-      | inl x ↦ rw x (rw t.0 (sym (reverse-cons e (works n past).0)), t.1)
-      | inr x ↦ elim (is (saving n e)) [
-        | inl y ↦ rw (x, y) (t.0, λ label. elim (is (eqb label e.1.value)) [ inl z ↦ rw z t.0 | inr z ↦ rw z (t.1 label) ])
-        | inr y ↦ elim (is (returning n e)) [ inl z ↦ rw (x, y, z) (t.1 e.0.value, t.1) | inr z ↦ rw (x, y, z) t ]
-      ]
-    ]
-
-progress_turned : (n : Name) (past : Past) → Turned (progress n ([], λ label. []) (reverse past)) (works n past)
-unfolding progress works
-progress_turned n [] = (refl, λ label. refl)
-progress_turned n (e ∷ past) =
-    rw (reverse-cons e past, progress_append n ([], λ label. []) (reverse past) (e ∷ []))
-    (onward_turned n (progress n ([], λ label. []) (reverse past)) e past (progress_turned n past))
-
-pub work_reverse : (n : Name) (past : Past) → work n (reverse past) ≡ reverse (doings n past)
-unfolding work
-work_reverse n past = (progress_turned n past).0
+work_reverse : (n : Name) (past : Past) → work n (reverse past) ≡ reverse (doings n past)
+unfolding doings work
+work_reverse n [] = refl
+work_reverse n (e ∷ past) =
+    rw (reverse-cons e past, work_append n (reverse past) (e ∷ []))
+    (elim (is (doing n e)) [
+      | inl x ↦ rw (x, work_reverse n past) (sym (reverse-cons e (doings n past)))
+      | inr x ↦ rw (x, work_reverse n past) (append-nil _)
+    ])
 
 -- A transaction alone
 

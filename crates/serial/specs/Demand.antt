@@ -1,15 +1,15 @@
 -- Demand 3: run alone, one after another in the order of their commits, on a plain table, the committed transactions read what
 -- the desk answered them, and the table ends as the committed items do.
 -- Assumes nothing.
-use Rattle.std.specs.Prelude.{ℕ, ◌+◌, ◌<◌, ◌≡◌, Bool, true, ◌&&◌, ◌||◌, cond, List, [], ◌∷◌, ◌++◌, map, get_or, eqb}
+use Rattle.std.specs.Prelude.{ℕ, ◌+◌, ◌<◌, ◌≡◌, Bool, true, ◌&&◌, ◌||◌, cond, List, [], ◌∷◌, map, get_or, eqb}
 use Rattle.house.specs.declared.House.{House}
 use Rattle.house.specs.declared.Item.{Item}
 use Rattle.house.specs.declared.Request.{Request}
 use Rattle.house.specs.declared.Rule.{Rule}
 use Rattle.house.specs.Search.{map_from}
 use Rattle.house.specs.Cell.{cell_at}
-use Rattle.house.specs.House.{Sizes, place_at, is_label, at_label, is_free}
-use Rattle.house.specs.Rules.{read, write, commit, save, back, ◌does◌}
+use Rattle.house.specs.House.{Sizes, place_at, is_free}
+use Rattle.house.specs.Rules.{read, write, commit, ◌does◌}
 use Rattle.house.specs.Opening.{opening}
 use Rattle.house.specs.Run.{finally, done, Name, same_name}
 pub use Rattle.house.specs.Run.{Event}
@@ -24,36 +24,14 @@ wrote e = e.0 does write
 abbrev pub name : Event → Name
 name e = (e.0.level, e.0.ticket)
 
--- a done read or write in that name, a done save, and a done return
+-- a done read or write in that name
 unfoldable pub doing : Name → Event → Bool
 doing n e = same_name n (name e) && (done e read || done e write)
 
-unfoldable pub saving : Name → Event → Bool
-saving n e = same_name n (name e) && done e save
-
-unfoldable pub returning : Name → Event → Bool
-returning n e = same_name n (name e) && done e back
-
--- what a transaction has done so far and, for each label, what it had done at the last save that was answered that label
-abbrev pub Progress : Type 0
-Progress = List Event × (ℕ → List Event)
-
--- one event on: a read or a write is added; a save keeps what was done for the label that it was answered; a return to a label takes
--- up again what was kept for it
-unfoldable pub onward : Name → Progress → Event → Progress
-onward n w e =
-    cond (doing n e) (w.0 ++ (e ∷ []), w.1)
-    (cond (saving n e) (w.0, λ label. cond (eqb label e.1.value) w.0 (w.1 label))
-    (cond (returning n e) (w.1 e.0.value, w.1)
-    w))
-
-unfoldable pub progress : Name → Progress → List Event → Progress
-progress n w [] = w
-progress n w (e ∷ es) = progress n (onward n w e) es
-
--- "its done reads and writes in their order", of these "the reads and writes that were not returned over" (CR 8)
+-- "its done reads and writes in their order"
 unfoldable pub work : Name → List Event → List Event
-work n es = (progress n ([], λ label. []) es).0
+work n [] = []
+work n (e ∷ es) = cond (doing n e) (e ∷ work n es) (work n es)
 
 -- who committed, "in the order of their commits"
 unfoldable pub commits : List Event → List Name
@@ -91,7 +69,7 @@ unfoldable pub look : List (ℕ × ℕ) → ℕ → Row → Row
 look [] i r = r
 look (w ∷ own) i r = cond (eqb w.0 i) (w.1, r.1 + 1) (look own i r)
 
--- "A transaction run alone on it repeats its done reads and writes in their order", those "that were not returned over": what its reads give, and the table at its
+-- "A transaction run alone on it repeats its done reads and writes in their order": what its reads give, and the table at its
 -- end, when "each item it wrote takes the last value, and its version grows by one"
 unfoldable pub run : Table → List (ℕ × ℕ) → List Event → List Row × Table
 run t own [] = ([], map_from 0 (look own) t)
@@ -120,7 +98,6 @@ pub record Untouched (h : House) : Type 0 where
   pub sizes : Sizes h
   pub free : (p : ℕ) → p < 32 → is_free (place_at h.places p).standing ≡ true
   pub clear : (p i : ℕ) → p < 32 → i < 64 → cell_at h.cells p i ≡ 0
-  pub unsaved : (i n : ℕ) → i < 64 → is_label n ≡ true → at_label h.saved i n ≡ 0
 
 -- THE STATEMENTS, proved in proofs/Demand.antt: of every untouched house, and of every opened one, under either rule,
 -- refused openings included

@@ -4,10 +4,10 @@ use Prim.Native.Nat.{ℕ, zero, suc, ◌<◌, ◌≤◌}
 use native.Mathlib.Omega.{arith}
 use mathlib.Core.Path.{◌≡◌, refl}
 use mathlib.Core.Logic.{◌≢◌, inl, inr}
-use mathlib.Core.Bool.{Bool, true, false, ◌&&◌, cond}
+use mathlib.Core.Bool.{Bool}
 use mathlib.Core.List.{List, []}
 use lib.ListN.{length, get_or}
-use lib.Dec.{eqb, leb, ltb}
+use lib.Dec.{ltb}
 use borrow.Author.Tests.{ltb-true}
 use Rattle.house.specs.declared.Found.{Found}
 use Rattle.house.specs.declared.Found.TheVariants.{At, Nobody}
@@ -20,20 +20,19 @@ use Rattle.house.specs.declared.Rule.{Rule}
 use Rattle.house.specs.declared.Rule.TheVariants.{A}
 use Rattle.house.specs.Search.{scan, count, if_found}
 use Rattle.house.specs.Cell.{holds, first_signalled, count_signalled}
-use Rattle.house.specs.House.{Sizes, item_at, pending_at, place_at, at_label, next_at}
-use Rattle.house.specs.Rules.{commit, ticket_after, grown, begun, counted, read_by, read_answer, read_for, written_by, wrote, signalled, certified_by, forgets, dropped_pending, left, committed_item, committed_by, saved_by, returned_pending, returned_by, ask_answer, said, replied, stepped}
+use Rattle.house.specs.House.{Sizes, item_at, pending_at, place_at, next_at}
+use Rattle.house.specs.Rules.{commit, ticket_after, grown, begun, read_by, read_answer, read_for, written_by, wrote, signalled, certified_by, dropped_pending, left, committed_item, committed_by, ask_answer, said, replied, stepped}
 use Rattle.house.specs.Order.{old_chain}
 use Rattle.house.specs.Opening.{opened, opening}
 use Rattle.house.proofs.Tests.{is, same}
 use Rattle.house.proofs.Searches.{find_below}
 use Rattle.house.proofs.Holders.{holder_at}
 use Rattle.house.proofs.Levels.{old_chain_long}
-use Rattle.house.proofs.Openings.{opened_sizes, opened_item, opened_pending, opened_place, opened_next, opened_saved}
-use Rattle.house.proofs.Labels.{IsLabel, noted_at_lem, forgotten_at_lem, counted_stays}
-use Rattle.house.proofs.Effects.{begun_sizes, begun_next, begun_next_other, begun_place, begun_place_other, signalled_long, certified_place, certified_place_other, left_place, left_place_other, read_sizes, read_place, read_place_other, written_sizes, written_place, written_place_other, written_pending, written_pending_other, certified_sizes, left_sizes, left_pending, committed_sizes, committed_item_lem, saved_sizes, saved_place, saved_place_other, returned_sizes, returned_pending_lem, returned_place, returned_place_other}
+use Rattle.house.proofs.Openings.{opened_sizes, opened_item, opened_pending, opened_place, opened_next}
+use Rattle.house.proofs.Effects.{begun_sizes, begun_next, begun_next_other, begun_place, begun_place_other, signalled_long, certified_place, certified_place_other, left_place, left_place_other, read_sizes, written_sizes, written_pending, written_pending_other, certified_sizes, left_sizes, left_pending, committed_sizes, committed_item_lem}
 use Rattle.wire.specs.Wire.{request_at}
 use Rattle.wire.specs.RoundTrip.{FitRequest, FitReply}
-use Rattle.reach.proofs.Turns.{Turn, turn, refused, waits, begins, reads, writes, certifies, commits, aborts, asks, saves, returns}
+use Rattle.reach.proofs.Turns.{Turn, turn, refused, waits, begins, reads, writes, certifies, commits, aborts, asks}
 use Rattle.reach.proofs.Opened.{opening_cases}
 
 pub record FitItem (x : Item) : Type 0 where
@@ -44,7 +43,6 @@ pub record Fits (h : House) : Type 0 where
   pub sizes : Sizes h
   pub items : (i : ℕ) → i < 64 → FitItem (item_at h.items i)
   pub pending : (i : ℕ) → i < 64 → pending_at h.pending i < 4294967296
-  pub saved : (i n : ℕ) → i < 64 → IsLabel n → at_label h.saved i n < 4294967296
   pub tickets : (p : ℕ) → p < 32 → (place_at h.places p).ticket < 4294967296
   pub next : (l : ℕ) → l < 4 → next_at h.next l < 4294967296
 
@@ -79,18 +77,6 @@ dropped_fits : (cells : List ℕ) (me i v : ℕ) → v < 4294967296 → dropped_
 unfolding dropped_pending
 dropped_fits cells me i v b = elim (is (wrote cells me i)) [ inl y ↦ rw y (omega arith) | inr n ↦ rw n b ]
 
--- either of two that fit
-either_fits : (b : Bool) (v w : ℕ) → v < 4294967296 → w < 4294967296 → cond b v w < 4294967296
-either_fits true v w x y = x
-either_fits false v w x y = y
-
-forgets_fits : (h : House) → Fits h → (me n i k : ℕ) → i < 64 → IsLabel k → at_label (forgets h me n).saved i k < 4294967296
-unfolding forgets
-forgets_fits h f me n i k a K =
-    let last = (place_at h.places me).labels in
-    rw (forgotten_at_lem h.saved 64 f.sizes.saved i k a K (wrote h.cells me) n last)
-    (either_fits (wrote h.cells me i && ltb n k && leb k last) 0 (at_label h.saved i k) (omega arith) (f.saved i k a K))
-
 module _ {h : House} (f : Fits h) where
   -- one place changed
   tickets_fit : (h' : House) (me : ℕ) → (place_at h'.places me).ticket < 4294967296 → ((p : ℕ) → p ≢ me → place_at h'.places p ≡ place_at h.places p) → (p : ℕ) → p < 32 → (place_at h'.places p).ticket < 4294967296
@@ -103,36 +89,22 @@ module _ {h : House} (f : Fits h) where
         sizes = begun_sizes f.sizes l me;
         items = f.items;
         pending = f.pending;
-        saved = f.saved;
         tickets = tickets_fit (begun h l me) me (rw (begun_place f.sizes l me m) (f.next l b)) (begun_place_other h l me);
         next = λ k c. elim (same k l) [ inl e ↦ rw (e, begun_next f.sizes l me b) (after_fits (next_at h.next l)) | inr n ↦ rw (begun_next_other h l me k n) (f.next k c) ];
       }
 
-  -- a count leaves the ticket
-  counted_fits : (me : ℕ) → me < 32 → (counted (place_at h.places me)).ticket < 4294967296
-  counted_fits me m = rw (counted_stays (place_at h.places me)).ticket (f.tickets me m)
-
-  read_fits : (me i : ℕ) → me < 32 → Fits (read_by h me i)
+  read_fits : (me i : ℕ) → Fits (read_by h me i)
   unfolding read_by
-  read_fits me i m =
-      record {
-        sizes = read_sizes f.sizes me i;
-        items = f.items;
-        pending = f.pending;
-        saved = f.saved;
-        tickets = tickets_fit (read_by h me i) me (rw (read_place f.sizes me i m) (counted_fits me m)) (read_place_other h me i);
-        next = f.next;
-      }
+  read_fits me i = record { sizes = read_sizes f.sizes me i; items = f.items; pending = f.pending; tickets = f.tickets; next = f.next }
 
-  written_fits : (me i v : ℕ) → me < 32 → i < 64 → v < 4294967296 → Fits (written_by h me i v)
+  written_fits : (me i v : ℕ) → i < 64 → v < 4294967296 → Fits (written_by h me i v)
   unfolding written_by
-  written_fits me i v m a b =
+  written_fits me i v a b =
       record {
         sizes = written_sizes f.sizes me i v;
         items = f.items;
         pending = λ j c. elim (same j i) [ inl e ↦ rw (e, written_pending f.sizes me i v a) b | inr n ↦ rw (written_pending_other h me i v j n) (f.pending j c) ];
-        saved = f.saved;
-        tickets = tickets_fit (written_by h me i v) me (rw (written_place f.sizes me i v m) (counted_fits me m)) (written_place_other h me i v);
+        tickets = f.tickets;
         next = f.next;
       }
 
@@ -143,19 +115,17 @@ module _ {h : House} (f : Fits h) where
         sizes = certified_sizes f.sizes me;
         items = f.items;
         pending = f.pending;
-        saved = f.saved;
         tickets = tickets_fit (certified_by h me) me (rw (certified_place f.sizes me m) (f.tickets me m)) (certified_place_other h me);
         next = f.next;
       }
 
   left_fits : (cells : List ℕ) → length cells ≡ 2048 → (me : ℕ) → me < 32 → Fits (left cells h me)
-  unfolding left forgets
+  unfolding left
   left_fits cells long me m =
       record {
         sizes = left_sizes f.sizes cells me long;
         items = f.items;
         pending = λ i a. rw (left_pending f.sizes cells me i a) (dropped_fits h.cells me i _ (f.pending i a));
-        saved = forgets_fits h f me 0;
         tickets = tickets_fit (left cells h me) me (rw (left_place f.sizes cells me m) (omega arith)) (left_place_other h cells me);
         next = f.next;
       }
@@ -167,33 +137,8 @@ module _ {h : House} (f : Fits h) where
         sizes = committed_sizes f.sizes me;
         items = λ i a. rw (committed_item_lem f.sizes me i a) (item_fits h.cells h.pending me i (item_at h.items i) (f.pending i a) (f.items i a));
         pending = g.pending;
-        saved = g.saved;
         tickets = g.tickets;
         next = g.next;
-      }
-
-  saved_fits : (me n : ℕ) → me < 32 → Fits (saved_by h me n)
-  unfolding saved_by
-  saved_fits me n m =
-      record {
-        sizes = saved_sizes f.sizes me n;
-        items = f.items;
-        pending = f.pending;
-        saved = λ i k a K. rw (noted_at_lem h.saved 64 f.sizes.saved i k a K (wrote h.cells me) (pending_at h.pending) n) (either_fits (wrote h.cells me i && eqb k n) (pending_at h.pending i) (at_label h.saved i k) (f.pending i a) (f.saved i k a K));
-        tickets = tickets_fit (saved_by h me n) me (rw (saved_place f.sizes me n m) (f.tickets me m)) (saved_place_other h me n);
-        next = f.next;
-      }
-
-  returned_fits : (me n : ℕ) → me < 32 → IsLabel n → Fits (returned_by h me n)
-  unfolding returned_by forgets returned_pending
-  returned_fits me n m N =
-      record {
-        sizes = returned_sizes f.sizes me n;
-        items = f.items;
-        pending = λ i a. rw (returned_pending_lem f.sizes me n i a) (either_fits (wrote h.cells me i) (at_label h.saved i n) (pending_at h.pending i) (f.saved i n a N) (f.pending i a));
-        saved = forgets_fits h f me n;
-        tickets = tickets_fit (returned_by h me n) me (rw (returned_place f.sizes me n m) (f.tickets me m)) (returned_place_other h me n);
-        next = f.next;
       }
 
 -- What is answered
@@ -225,14 +170,12 @@ module _ {h : House} (f : Fits h) (q : Request) (k : FitRequest q) where
   turn_fits o (refused n) = (f, plain _)
   turn_fits o (waits p z e) = let b = (holder_at h q p e).2.place in (f, record { item = k.item; ticket = k.ticket; value = f.tickets p b; version = omega arith })
   turn_fits o (begins me z m) = (begun_fits f q.level me m.level m.place, record { item = k.item; ticket = f.next q.level m.level; value = omega arith; version = omega arith })
-  turn_fits o (reads me z s m) = (read_fits f me q.item m.place, read_answer_lem me m.row)
-  turn_fits o (writes me z s m) = (written_fits f me q.item q.value m.place m.row k.value, plain 0)
+  turn_fits o (reads me z s m) = (read_fits f me q.item, read_answer_lem me m.row)
+  turn_fits o (writes me z s m) = (written_fits f me q.item q.value m.row k.value, plain 0)
   turn_fits o (certifies me z s m) = (certified_fits f me m.place, plain 0)
   turn_fits o (commits me z s m) = (committed_fits f me m.place, plain 0)
   turn_fits o (aborts me z s) = (left_fits f h.cells f.sizes.cells me s.seated.within.place, plain 0)
   turn_fits o (asks me z s) = (f, record { item = first_fits h.cells me _ refl; ticket = k.ticket; value = omega (arith, count_fits (holds h.cells Signalled me) 0 64); version = omega arith })
-  turn_fits o (saves me z s m) = (saved_fits f me _ m.place, record { item = k.item; ticket = k.ticket; value = let few = m.few in omega arith; version = omega arith })
-  turn_fits o (returns me z s m) = (returned_fits f me q.value m.place m.label, plain 0)
 
 pub step_fits : {h : House} → Fits h → (q : Request) → FitRequest q → Fits (stepped h q).house × FitReply (stepped h q).reply
 step_fits {h} f q k = turn_fits f q k (stepped h q) (turn h q)
@@ -248,7 +191,6 @@ opening_fits levels order rule = opening_cases Fits levels order rule (λ P O. o
           sizes = opened_sizes l o r z;
           items = λ i a. rw (opened_item l o r i a) (record { value = omega arith; version = omega arith });
           pending = λ i a. rw (opened_pending l o r i a) (omega arith);
-          saved = λ i n a N. rw (opened_saved l o r i n a N) (omega arith);
           tickets = λ p b. rw (opened_place l o r p b) (omega arith);
           next = λ k b. rw (opened_next l o r k b) (omega arith);
         }

@@ -5,7 +5,7 @@ use mathlib.Core.List.{[], ◌∷◌}
 use lib.ListN.{take}
 use Rattle.house.specs.Run.{finally}
 use Rattle.house.proofs.Unfolding.{rules}
-use Rattle.serial.specs.Demand.{trace, table, doing, saving, returning, onward, progress, work, commits, answers, look, run, serially}
+use Rattle.serial.specs.Demand.{trace, table, doing, work, commits, answers, look, run, serially}
 use Rattle.serial_day.specs.Day.{day, start, requests, Worked}
 
 answered : trace start requests ≡ day
@@ -17,5 +17,5 @@ unfolding rules
 kept = refl
 
 pub worked : Worked
-unfolding rules doing saving returning onward progress work commits answers look run serially
-worked = record { answered = answered; committed = refl; unreturned = refl; reads = refl; told = refl; ends = refl; kept = kept }
+unfolding rules doing work commits answers look run serially
+worked = record { answered = answered; committed = refl; reads = refl; told = refl; ends = refl; kept = kept }

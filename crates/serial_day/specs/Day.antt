@@ -1,11 +1,11 @@
--- Demand 3 on a small day, on which somebody returns twice: both sides of its equation, worked out. Items 0 and 1 at level 0, item 2 at level 2, in the order of
+-- Demand 3 on a small day: both sides of its equation, worked out. Items 0 and 1 at level 0, item 2 at level 2, in the order of
 -- the diamond, under rule A.
 -- Assumes nothing.
 use Rattle.std.specs.Prelude.{ℕ, ◌≡◌, List, [], ◌∷◌, map, take}
 use Rattle.house.specs.declared.House.{House}
 use Rattle.house.specs.declared.Request.{Request}
 use Rattle.house.specs.declared.Rule.TheVariants.{A}
-use Rattle.house.specs.Rules.{begin, read, write, certify, commit, abort, save, back}
+use Rattle.house.specs.Rules.{begin, read, write, certify, commit, abort}
 use Rattle.house.specs.Order.{diamond}
 use Rattle.house.specs.Opening.{opening}
 use Rattle.house.specs.Run.{finally}
@@ -47,21 +47,11 @@ day =
     -- ticket 2 reads item 0 as committed; level 2 learns that it is signalled
     ∷ event read 0 0 2 0 0 8 1
     ∷ event certify 2 0 1 0 2 0 0
-    -- so it begins anew, reads item 1 as it was before ticket 2's write, and saves: label 1
+    -- so it begins anew, writes item 2, reads item 1 as it was before ticket 2's write, and commits before ticket 2
     ∷ event abort 2 0 1 0 0 0 0
     ∷ begins 2 2
-    ∷ event read 2 1 2 0 0 0 0
-    ∷ event save 2 0 2 0 0 1 0
-    -- it writes item 2, saves again, overwrites it, returns to label 2 and reads what it had written by then
-    ∷ event write 2 2 2 3 0 0 0
-    ∷ event save 2 0 2 0 0 2 0
-    ∷ event write 2 2 2 4 0 0 0
-    ∷ event read 2 2 2 0 0 4 1
-    ∷ event back 2 0 2 2 0 0 0
-    ∷ event read 2 2 2 0 0 3 1
-    -- it returns to label 1, which takes back the write too, writes item 2 anew, and commits before ticket 2
-    ∷ event back 2 0 2 1 0 0 0
     ∷ event write 2 2 2 9 0 0 0
+    ∷ event read 2 1 2 0 0 0 0
     ∷ event certify 2 0 2 0 0 0 0
     ∷ event commit 2 0 2 0 0 0 0
     -- ticket 2 certifies and commits
@@ -83,8 +73,6 @@ alone = serially (table start) (map (λ n. work n day) (commits day))
 pub record Worked : Type 0 where
   pub answered : trace start requests ≡ day
   pub committed : commits day ≡ ((0, 1) ∷ (2, 2) ∷ (0, 2) ∷ [])
-  -- of what level 2 did, what was not returned over
-  pub unreturned : work (2, 2) day ≡ (event read 2 1 2 0 0 0 0 ∷ event write 2 2 2 9 0 0 0 ∷ [])
   -- the two sides: what they read alone and what the desk told them, and the first three rows at the end
   pub reads : alone.0 ≡ (((8, 1) ∷ []) ∷ ((0, 0) ∷ []) ∷ ((8, 1) ∷ []) ∷ [])
   pub told : map (λ n. answers (work n day)) (commits day) ≡ (((8, 1) ∷ []) ∷ ((0, 0) ∷ []) ∷ ((8, 1) ∷ []) ∷ [])

@@ -7,21 +7,21 @@ use mathlib.Core.Bool.{Bool, true, ◌&&◌, cond}
 use mathlib.Core.List.{List}
 use mathlib.Core.Path.{◌≡◌, refl, sym, ap, ◌∙◌}
 use lib.ListN.{set}
-use lib.Dec.{eqb, ltb}
+use lib.Dec.{eqb}
 use borrow.Author.Tests.{ltb-true}
 use Rattle.house.specs.declared.House.{House}
 use Rattle.house.specs.declared.Mark.TheVariants as Mark
 use Rattle.house.specs.declared.Place.{Place}
 use Rattle.house.specs.declared.Standing.TheVariants.{Active, Certified}
-use Rattle.house.specs.Cell.{with_mark, with_lock}
-use Rattle.house.specs.House.{Sizes, vacant, place_at, next_at, with_standing, with_items, with_pending, with_place, with_next, with_cells}
-use Rattle.house.specs.Rules.{certify, commit, ticket_after, begun, counted, read_by, written_by, signals_at, signalled_cell, converted_cell, certified_by, cleared_cell, forgets}
+use Rattle.house.specs.Cell.{with_mark}
+use Rattle.house.specs.House.{Sizes, vacant, place_at, next_at, with_items, with_pending, with_place, with_next, with_cells}
+use Rattle.house.specs.Rules.{certify, commit, ticket_after, begun, read_by, written_by, signals_at, signalled_cell, converted_cell, certified_by, cleared_cell}
 use Rattle.house.proofs.Tests.{both_below}
 use Rattle.house.proofs.Effects.{signalled_long}
 use Rattle.ruling.specs.Ruling.{fits, effect}
 use Rattle.ruling.specs.declared.Change.{Change}
 use Rattle.ruling.specs.declared.Change.TheVariants.{Nothing, Begin, Read, Write, Certify, End}
-use Rattle.signals.specs.Sweep.{swept}
+use Rattle.sweeps.specs.Sweep.{swept}
 use Rattle.sweeps.proofs.Whole.{swept_whole, given_whole, given_tested, claimed, committed, dropped, ended_house}
 
 -- nothing to change
@@ -47,49 +47,48 @@ module _ (k : Change) (fit : fits k ≡ true) where
 
   module _ (h : House) where
     -- a place taken with the next ticket of the level, and the ticket after it
-    pub begun_is : (l me : ℕ) → k ≡ Begin l me → (place : Place) → place ≡ record { standing = Active; labels = 0; count = 0; ticket = next_at h.next l } → (t : ℕ) → t ≡ ticket_after (next_at h.next l)
+    pub begun_is : (l me : ℕ) → k ≡ Begin l me → (place : Place) → place ≡ record { standing = Active; ticket = next_at h.next l } → (t : ℕ) → t ≡ ticket_after (next_at h.next l)
         → with_next (with_place h me place) l t ≡ effect h k
     unfolding begun
     begun_is l me e place p t n = rw (e, p, n)
 
-    -- the read lock in the cell, at the labels of the place, and the place counted
-    pub read_is : (me i : ℕ) → k ≡ Read me i → (cells : List ℕ) → cells ≡ with_lock (place_at h.places me).labels h.cells (me % 32) (i % 64)
-        → (place : Place) → place ≡ counted (place_at h.places me) → with_place (with_cells h cells) me place ≡ effect h k
+    -- the read mark in the cell
+    pub read_is : (me i : ℕ) → k ≡ Read me i → (cells : List ℕ) → cells ≡ with_mark Mark.Read h.cells (me % 32) (i % 64) → with_cells h cells ≡ effect h k
     unfolding read_by
-    read_is me i e cells c place p = let b = read_there me i e in rw (e, c, p, mod-eq_of_lt b.0, mod-eq_of_lt b.1)
+    read_is me i e cells c = let b = read_there me i e in rw (e, c, mod-eq_of_lt b.0, mod-eq_of_lt b.1)
 
-    -- the write mark in the cell, the pending value, and the place counted
+    -- the write mark in the cell, and the pending value
     pub written_is : (me i v : ℕ) → k ≡ Write me i v → (cells : List ℕ) → cells ≡ with_mark Mark.Write h.cells (me % 32) (i % 64)
-        → (place : Place) → place ≡ counted (place_at h.places me) → with_place (with_pending (with_cells h cells) (set h.pending i v)) me place ≡ effect h k
+        → with_pending (with_cells h cells) (set h.pending i v) ≡ effect h k
     unfolding written_by
-    written_is me i v e cells c place p = let b = write_there me i v e in rw (e, c, p, mod-eq_of_lt b.0, mod-eq_of_lt b.1)
+    written_is me i v e cells c = let b = write_there me i v e in rw (e, c, mod-eq_of_lt b.0, mod-eq_of_lt b.1)
 
     module _ (z : Sizes h) where
       -- the signals given, the cells converted, and the place certified
       pub certified_is : (me : ℕ) → k ≡ Certify me → (cells given : List ℕ) → cells ≡ swept (converted_cell (me % 32)) given
           → (gives : Bool) → given ≡ swept (signalled_cell gives h.order h.cells (me % 32)) h.cells → gives ≡ eqb (signals_at h.rule) certify
-          → (place : Place) → place ≡ with_standing (place_at h.places me) Certified → with_place (with_cells h cells) me place ≡ effect h k
+          → (place : Place) → place ≡ record { standing = Certified; ticket = (place_at h.places me).ticket } → with_place (with_cells h cells) me place ≡ effect h k
       unfolding certified_by
       certified_is me e cells given c gives d s place p =
           rw (e, c, d, s, mod-eq_of_lt (certify_there me e), given_whole h z certify me, swept_whole (converted_cell me) _ (signalled_long z certify me), p)
 
-      -- f is the house with its labels forgotten, if it has any, g that with its items ended, j that with its pending values too; then the
-      -- signals are given, the cells are cleared and the place is left
-      pub ended_is : (me : ℕ) (commits : Bool) → k ≡ End me commits → (f : House) → f ≡ cond (ltb 0 (place_at h.places me).labels) (forgets h (me % 32) 0) h → (has : Bool) → has ≡ claimed f (me % 32)
-          → (g : House) → g ≡ with_items f (cond (has && commits) (committed f (me % 32)) f.items)
+      -- g is the house with its items ended, j that with its pending values too; then the signals are given, the cells are cleared and the
+      -- place is left
+      pub ended_is : (me : ℕ) (commits : Bool) → k ≡ End me commits → (has : Bool) → has ≡ claimed h (me % 32)
+          → (g : House) → g ≡ with_items h (cond (has && commits) (committed h (me % 32)) h.items)
           → (j : House) → j ≡ with_pending g (cond has (dropped g (me % 32)) g.pending)
           → (cells given : List ℕ) → cells ≡ swept (cleared_cell (me % 32)) given
           → (gives : Bool) → given ≡ swept (signalled_cell (commits && gives) j.order j.cells (me % 32)) j.cells → gives ≡ eqb (signals_at j.rule) commit
           → (place : Place) → place ≡ vacant → with_place (with_cells j cells) me place ≡ effect h k
-      ended_is me commits e f o has c g i j p cells given w gives d s place v = rw (e, w, d, v) (ended_house h f g j z me (me % 32) (mod-eq_of_lt (end_there me commits e)) commits has gives o c i p s)
+      ended_is me commits e has c g i j p cells given w gives d s place v = rw (e, w, d, v) (ended_house h g j z me (me % 32) (mod-eq_of_lt (end_there me commits e)) commits has gives c i p s)
 
-      -- the same where the signals are given under a test, and q is the house with them
-      pub ended_tested : (me : ℕ) (commits : Bool) → k ≡ End me commits → (f : House) → f ≡ cond (ltb 0 (place_at h.places me).labels) (forgets h (me % 32) 0) h → (has : Bool) → has ≡ claimed f (me % 32)
-          → (g : House) → g ≡ with_items f (cond (has && commits) (committed f (me % 32)) f.items)
+      -- the same where the signals are given under a test, and f is the house with them
+      pub ended_tested : (me : ℕ) (commits : Bool) → k ≡ End me commits → (has : Bool) → has ≡ claimed h (me % 32)
+          → (g : House) → g ≡ with_items h (cond (has && commits) (committed h (me % 32)) h.items)
           → (j : House) → j ≡ with_pending g (cond has (dropped g (me % 32)) g.pending)
           → (gives : Bool) → gives ≡ eqb (signals_at j.rule) commit
-          → (q : House) → q ≡ with_cells j (cond (commits && gives) (swept (signalled_cell (commits && gives) j.order j.cells (me % 32)) j.cells) j.cells)
-          → (cells : List ℕ) → cells ≡ swept (cleared_cell (me % 32)) q.cells → (place : Place) → place ≡ vacant → with_place (with_cells q cells) me place ≡ effect h k
-      ended_tested me commits e f o has c g i j p gives s q r cells w place v =
+          → (f : House) → f ≡ with_cells j (cond (commits && gives) (swept (signalled_cell (commits && gives) j.order j.cells (me % 32)) j.cells) j.cells)
+          → (cells : List ℕ) → cells ≡ swept (cleared_cell (me % 32)) f.cells → (place : Place) → place ≡ vacant → with_place (with_cells f cells) me place ≡ effect h k
+      ended_tested me commits e has c g i j p gives s f q cells w place v =
           let given = given_tested (commits && gives) j.order j.cells (me % 32) in
-          rw r (ended_is me commits e f o has c g i j p cells _ (w ∙ ap (λ x. swept (cleared_cell (me % 32)) x.cells) r ∙ ap (swept (cleared_cell (me % 32))) given) gives refl s place v)
+          rw q (ended_is me commits e has c g i j p cells _ (w ∙ ap (λ x. swept (cleared_cell (me % 32)) x.cells) q ∙ ap (swept (cleared_cell (me % 32))) given) gives refl s place v)

@@ -20,12 +20,6 @@ impl Moment<'_> {
         self.is_done(self.before.rule.signals_at())
     }
 
-    /// The asker before the request, if it is open.
-    pub fn asker(&self) -> Option<&Place> {
-        let place = self.before.find(self.request.level, self.request.ticket).ok()?;
-        Some(&self.before.places[place])
-    }
-
     /// What the asker has written.
     pub fn changed(&self) -> Vec<usize> {
         self.before.changed_by(self.request)

@@ -12,6 +12,11 @@ impl Moment<'_> {
         self.request.is(operation) && self.reply.number == Refusal::Signalled.number()
     }
 
+    fn asker(&self) -> Option<&Place> {
+        let place = self.before.find(self.request.level, self.request.ticket).ok()?;
+        Some(&self.before.places[place])
+    }
+
     /// Whether one above has read something that the asker has written.
     fn is_read_above(&self) -> bool {
         let changed = self.changed();

@@ -1,7 +1,5 @@
 //! The marked examples M1 to M12, and M11 and M12 under rule B, who holds what is delayed, the replies that a run cannot reach, and
-//! what every run keeps. Savepoints have a file of their own.
-
-mod savepoints;
+//! what every run keeps.
 
 use super::*;
 use crate::bytes::input_of;
@@ -461,30 +459,6 @@ fn check_house(desk: &Desk) {
     for place in desk.places.iter().filter(|place| !place.is_taken()) {
         assert_eq!(*place, Place::free(place.level));
     }
-    desk.places.iter().for_each(check_labels);
-}
-
-/// Later saves have what the earlier ones have, and the transaction has what its last save has.
-fn check_labels(place: &Place) {
-    assert!(place.saves.len() <= MOST_LABELS && place.counted <= MOST_COUNTED);
-    assert!(!place.saves.is_empty() || place.counted == 0, "counted before the first label");
-    let (mut cells, mut counted) = (&BTreeMap::<usize, Cell>::new(), 0);
-    let saves = place.saves.iter().map(|save| (&save.cells, save.counted));
-    for (next, next_counted) in saves.chain([(&place.cells, place.counted)]) {
-        for (item, cell) in cells {
-            let has = next.get(item).copied().unwrap_or_default();
-            assert!(has.read >= cell.read, "a read lock of a save is gone");
-            assert!(has.write || has.certify || !cell.write, "a write lock of a save is gone");
-        }
-        assert!(counted <= next_counted, "a save has counted more than a later one");
-        (cells, counted) = (next, next_counted);
-    }
-    let of_items = |save: &Save| save.pending.keys().copied().eq(written_in(save));
-    assert!(place.saves.iter().all(of_items), "a save has a value of what was not written");
-}
-
-fn written_in(save: &Save) -> impl Iterator<Item = usize> + '_ {
-    save.cells.iter().filter(|(_, cell)| cell.write).map(|(&item, _)| item)
 }
 
 /// True when no transaction but this one is open at its level or below.

@@ -1,5 +1,5 @@
-//! The slips that CR 2 invites, also with savepoints (CR 8), and those of an opening that no input on the
-//! wire shows (CR 6, CR 7), made on purpose: a map call that behaves but for one slip.
+//! The slips that CR 2 invites, and those of an opening that no input on the wire shows (CR 6, CR 7),
+//! made on purpose: a map call that behaves but for one slip.
 
 use super::{read_map, Call, Conduct, Map, Open};
 use crate::desk::{Desk, Refusal, MOST_ITEMS};
@@ -7,7 +7,7 @@ use crate::opening::Opening;
 use crate::order::TABLE_BYTES;
 use crate::wire::REPLY_BYTES;
 
-pub const SLIPS: [(&str, Conduct); 16] = [
+pub const SLIPS: [(&str, Conduct); 15] = [
     ("leaves the last item out", reads(leaves_last_out)),
     ("stops after a refusal", reads(stops_after_refusal)),
     ("gives no reply where it refuses", reads(skips_refused)),
@@ -29,7 +29,6 @@ pub const SLIPS: [(&str, Conduct); 16] = [
         opens(|opening| Desk::open(&under(opening, |rule| rule & 1))),
     ),
     ("looks at the rule last", opens(rule_last)),
-    ("counts a map as one read", reads(counts_once)),
 ];
 
 const fn reads(call: Call) -> Conduct {
@@ -97,16 +96,6 @@ fn keeps_last_part(desk: &mut Desk, map: &Map, replies: &mut [u8]) -> usize {
     for (items, places) in map.items.chunks(64).zip(replies.chunks_mut(64 * REPLY_BYTES)) {
         *desk = fresh.clone();
         count += read_map(desk, &with_items(map, items), places);
-    }
-    count
-}
-
-fn counts_once(desk: &mut Desk, map: &Map, replies: &mut [u8]) -> usize {
-    let Ok(me) = desk.find(map.level, map.ticket) else { return read_map(desk, map, replies) };
-    let (counted, mut count) = (desk.places[me].counted, 0);
-    for (item, place) in map.items.chunks(1).zip(replies.chunks_exact_mut(REPLY_BYTES)) {
-        desk.places[me].counted = counted;
-        count += read_map(desk, &with_items(map, item), place);
     }
     count
 }

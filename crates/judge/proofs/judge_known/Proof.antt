@@ -28,12 +28,6 @@ answer-ask-requires c κs = search rules
 grant-requires-2 : tie.Need-grant-requires-2
 grant-requires-2 c κs = search rules
 
-judge-save-requires : tie.Need-judge-save-requires
-judge-save-requires c κs = search rules
-
-judge-back-requires : tie.Need-judge-back-requires
-judge-back-requires c κs = search rules
-
 returns : tie.Need-returns
 unfolding known_ruled
 returns c = search followed depth 20
@@ -58,14 +52,6 @@ returns-6 : tie.Need-returns-6
 unfolding known_ruled
 returns-6 c = search (followed, granted, asked) depth 20
 
-returns-7 : tie.Need-returns-7
-unfolding known_ruled
-returns-7 c = search followed depth 20
-
-returns-8 : tie.Need-returns-8
-unfolding known_ruled
-returns-8 c = search followed depth 20
-
 pub judge_known_spec : {M : Type 1} → statement M
 judge_known_spec =
     tie.close
@@ -77,13 +63,9 @@ judge_known_spec =
     grant-requires
     answer-ask-requires
     grant-requires-2
-    judge-save-requires
-    judge-back-requires
     returns
     returns-2
     returns-3
     returns-4
     returns-5
-    returns-6
-    returns-7
-    returns-8)
+    returns-6)

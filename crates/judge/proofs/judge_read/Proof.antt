@@ -1,11 +1,9 @@
--- Each return is `search followed`: it goes through `read_checks` as the code went through its tests, wherever those stand. What is ruled once
--- all are passed goes by `cleared`. A check that is inserted brings its own need and shifts nothing but the numbers of the returns.
-use mathlib.Core.Path.{◌≡◌}
+-- Each return is `search followed`: it goes through `read_checks` as the code went through its tests, wherever those stand. A check that is
+-- inserted brings its own needs and shifts nothing.
 use borrow.Author.Rules.{rules}
 use Rattle.house.proofs.Branches.{followed}
 use Rattle.judge.proofs.Laws.{allowed, forbidden, held, unheld, shown, granted, listed}
-use Rattle.ruling.specs.declared.Ruling.{Ruling}
-use Rattle.ruling.specs.Judged.{chain, read_checks, read_ruled}
+use Rattle.ruling.specs.Judged.{read_ruled}
 use Rattle.judge.proofs.judge_read.Statement.{statement}
 use Rattle.judge.proofs.judge_read.Tie as tie
 
@@ -40,29 +38,15 @@ returns-4 : tie.Need-returns-4
 unfolding read_ruled
 returns-4 c = search (followed, allowed) depth 20
 
-is-spent-requires : tie.Need-is-spent-requires
-is-spent-requires c κs = search rules
-
-returns-5 : tie.Need-returns-5
-unfolding read_ruled
-returns-5 c = search (followed, allowed) depth 20
-
 read-holder-requires : tie.Need-read-holder-requires
 read-holder-requires c κs = search rules
-
--- where the locks are looked at, none of the checks applied
-abbrev came : tie.After-read-holder → tie.Start
-came c = search
-
-cleared : (c : tie.After-read-holder) (r x : Ruling) → r ≡ x → r ≡ chain (read_checks (came c).args.case (came c).args.cells.now) x
-cleared c r x e = search (followed, allowed) depth 20
 
 enum-known-holder : tie.Need-enum-known-holder
 enum-known-holder c = search rules
 
-returns-6 : tie.Need-returns-6
+returns-5 : tie.Need-returns-5
 unfolding read_ruled
-returns-6 c = search (cleared, held, listed)
+returns-5 c = search (followed, allowed, held, listed) depth 20
 
 enum_told : tie.Need-enum-told
 enum_told c = search rules
@@ -73,9 +57,9 @@ answer-read-requires c κs = search rules
 grant-requires : tie.Need-grant-requires
 grant-requires c κs = search rules
 
-returns-7 : tie.Need-returns-7
+returns-6 : tie.Need-returns-6
 unfolding read_ruled
-returns-7 c = search (cleared, unheld, shown, granted, listed)
+returns-6 c = search (followed, allowed, unheld, shown, granted, listed) depth 20
 
 pub judge_read_spec : {M : Type 1} → statement M
 judge_read_spec =
@@ -90,12 +74,10 @@ judge_read_spec =
     returns-3
     is-certified-requires
     returns-4
-    is-spent-requires
-    returns-5
     read-holder-requires
     enum-known-holder
-    returns-6
+    returns-5
     enum_told
     answer-read-requires
     grant-requires
-    returns-7)
+    returns-6)

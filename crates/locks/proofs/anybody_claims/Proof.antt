@@ -3,7 +3,7 @@ use mathlib.Core.Bool.{◌||◌}
 use mathlib.Core.Path.{◌≡◌, refl}
 use borrow.Author.Rules.{rules}
 use Rattle.house.proofs.Searches.{searched}
-use Rattle.house.specs.Cell.{cell_at, holds}
+use Rattle.house.specs.Cell.{holds}
 use Rattle.house.specs.Search.{any}
 use Rattle.house.specs.declared.Mark.TheVariants.{Write, Certify}
 use Rattle.locks.proofs.anybody_claims.Statement.{statement}
@@ -18,17 +18,8 @@ decreases-loop cells i hit₀ p₀ hit p = 32 - p
 loop-holds : tie.Need-loop-init invariant-loop decreases-loop
 loop-holds c = refl
 
-mul-is-written : tie.Need-overflow-mul-is-written invariant-loop decreases-loop
-mul-is-written c = search rules
-
-add-is-written : tie.Need-overflow-add-is-written invariant-loop decreases-loop
-add-is-written c = search rules
-
-element-copy-out-is-written : tie.Need-element-copy-out-is-written invariant-loop decreases-loop
-element-copy-out-is-written c = search rules
-
-is-written-requires : tie.Need-is-written-requires invariant-loop decreases-loop
-is-written-requires c κs = search rules
+claims-requires : tie.Need-claims-requires invariant-loop decreases-loop
+claims-requires c κs = search rules
 
 add-p : tie.Need-overflow-add-p invariant-loop decreases-loop
 add-p c = search rules
@@ -37,7 +28,6 @@ loop-less : tie.Need-loop-smaller invariant-loop decreases-loop
 loop-less c = search rules
 
 loop-again : tie.Need-loop-preserved invariant-loop decreases-loop
-unfolding holds cell_at
 loop-again c = search searched
 
 returns : tie.Need-returns invariant-loop decreases-loop
@@ -46,15 +36,4 @@ returns c = search searched
 pub anybody_claims_spec : {M : Type 1} → statement M
 anybody_claims_spec =
     tie.close
-    (tie.spec
-    invariant-loop
-    decreases-loop
-    loop-holds
-    mul-is-written
-    add-is-written
-    element-copy-out-is-written
-    is-written-requires
-    add-p
-    loop-less
-    loop-again
-    returns)
+    (tie.spec invariant-loop decreases-loop loop-holds claims-requires add-p loop-less loop-again returns)

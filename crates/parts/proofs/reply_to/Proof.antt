@@ -49,12 +49,6 @@ enum-known-answer-5 c = search rules
 say-requires-6 : tie.Need-say-requires-6
 say-requires-6 c κs = search rules
 
-enum-known-answer-6 : tie.Need-enum-known-answer-6
-enum-known-answer-6 c = search rules
-
-say-requires-7 : tie.Need-say-requires-7
-say-requires-7 c κs = search rules
-
 returns : tie.Need-returns
 returns c = search found
 
@@ -73,9 +67,6 @@ returns-5 c = search found
 returns-6 : tie.Need-returns-6
 returns-6 c = search found
 
-returns-7 : tie.Need-returns-7
-returns-7 c = search found
-
 pub reply_to_spec : {M : Type 1} → statement M
 reply_to_spec =
     tie.close
@@ -92,12 +83,9 @@ reply_to_spec =
     say-requires-5
     enum-known-answer-5
     say-requires-6
-    enum-known-answer-6
-    say-requires-7
     returns
     returns-2
     returns-3
     returns-4
     returns-5
-    returns-6
-    returns-7)
+    returns-6)

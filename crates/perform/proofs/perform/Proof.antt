@@ -15,11 +15,8 @@ use Rattle.house.specs.House.{Sizes, vacant, with_items, with_pending, with_plac
 use Rattle.house.specs.declared.House.{House}
 use Rattle.house.specs.declared.Place.{Place}
 use Rattle.ruling.specs.Ruling.{fits, effect, effect_if_fit}
-use Rattle.signals.specs.Sweep.{swept}
-use Rattle.sweeps.proofs.Changes.{begin_there, read_there, write_there, certify_there, end_there, kept_is, begun_is, read_is, written_is, certified_is, ended_tested}
-use Rattle.sweeps.proofs.Whole.{went_later, none_later}
-use Rattle.labels.proofs.Changes.{saved_is}
-use Rattle.returns.proofs.Changes.{returned_is}
+use Rattle.sweeps.specs.Sweep.{swept}
+use Rattle.sweeps.proofs.Changes.{begin_there, write_there, certify_there, end_there, kept_is, begun_is, read_is, written_is, certified_is, ended_tested}
 use Rattle.perform.proofs.perform.Statement.{statement}
 use Rattle.perform.proofs.perform.Tie as tie
 
@@ -29,7 +26,7 @@ came c = search
 
 -- the lists are as long as the arrays
 sizes : (c : tie.Start) → Sizes c.args.h
-sizes c = record { order = search rules; items = search (rules, length_mapped); pending = search rules; places = search (rules, length_mapped); next = search rules; cells = search rules; saved = search rules; counts = search rules }
+sizes c = record { order = search rules; items = search (rules, length_mapped); pending = search rules; places = search (rules, length_mapped); next = search rules; cells = search rules }
 
 fit : (c : tie.Else1) → fits (came c).args.change ≡ true
 fit c = sym c.before.is-fit.ensures ∙ not-false _ c.if1.false
@@ -44,9 +41,6 @@ made c g e = rw (fit c) (e (fit c) (sizes (came c)))
 begins : (c : tie.After-change) → (c.change.given.0.0 < 4) × (c.change.given.0.1.0 < 32)
 begins c = begin_there _ (fit (search)) _ _ c.change.given.1
 
-reads : (c : tie.After-change2) → (c.change2.given.0.0 < 32) × (c.change2.given.0.1.0 < 64)
-reads c = read_there _ (fit (search)) _ _ c.change2.given.1
-
 writes : (c : tie.After-change3) → (c.change3.given.0.0 < 32) × (c.change3.given.0.1.0 < 64)
 writes c = write_there _ (fit (search)) _ _ _ c.change3.given.1
 
@@ -56,31 +50,29 @@ certifies c = certify_there _ (fit (search)) _ c.change4.given.1
 ends : (c : tie.After-change5) → c.change5.given.0.0 < 32
 ends c = end_there _ (fit (search)) _ _ c.change5.given.1
 
--- an end, once its four tests have met: with the cells cleared and the place left it is the effect
+-- an end, once its three tests have met: with the cells cleared and the place left it is the effect
 
-abbrev ending : tie.Joined5 → tie.After-change5
+abbrev ending : tie.Joined4 → tie.After-change5
 ending c = search
 
-abbrev whose : tie.Joined5 → tie.Start
+abbrev whose : tie.Joined4 → tie.Start
 whose c = search
 
-ended : (c : tie.Joined5) → let me = (ending c).change5.given.0.0 in let h = c.if5.h in
+ended : (c : tie.Joined4) → let me = (ending c).change5.given.0.0 in let h = c.if4.h in
     (cells : List ℕ) → cells ≡ swept (cleared_cell (me % 32)) h.cells → (place : Place) → place ≡ vacant → with_place (with_cells h cells) me place ≡ effect (whose c).args.h (whose c).args.change
 ended c =
-    let f : tie.Joined2 = search in
     let k : tie.After-has-claimed = search in
-    let i : tie.Joined3 = search in
-    let j : tie.Joined4 = search in
+    let i : tie.Joined2 = search in
+    let j : tie.Joined3 = search in
     let s : tie.After-gives-at2 = search in
-    let items = with_items f.if2.h in
-    let pending = with_pending i.if3.h in
-    let cells = with_cells j.if4.h in
-    ended_tested _ (fit (search)) _ (sizes (whose c)) _ _ (ending c).change5.given.1
-    f.if2.h (⊎_elim (λ w. search went_later) (λ w. search none_later) f.if2.came) _ k.has_claimed.ensures
-    i.if3.h (⊎_elim (λ w. search (went items)) (λ w. search (passed items)) i.if3.came)
-    j.if4.h (⊎_elim (λ w. search (went pending)) (λ w. search (passed pending)) j.if4.came)
+    let items = with_items (whose c).args.h in
+    let pending = with_pending i.if2.h in
+    let cells = with_cells j.if3.h in
+    ended_tested _ (fit (search)) _ (sizes (whose c)) _ _ (ending c).change5.given.1 _ k.has_claimed.ensures
+    i.if2.h (⊎_elim (λ w. search (went items)) (λ w. search (passed items)) i.if2.came)
+    j.if3.h (⊎_elim (λ w. search (went pending)) (λ w. search (passed pending)) j.if3.came)
     _ s.gives-at2.ensures
-    c.if5.h (⊎_elim (λ w. search (went cells)) (λ w. search (passed cells)) c.if5.branch)
+    c.if4.h (⊎_elim (λ w. search (went cells)) (λ w. search (passed cells)) c.if4.branch)
 
 is-fit-requires : tie.Need-is-fit-requires
 is-fit-requires c κs = search rules
@@ -122,50 +114,20 @@ element-write-h c = omega (arith, begins (search))
 enum-known-change-2 : tie.Need-enum-known-change-2
 enum-known-change-2 c = search rules
 
-mul-reader : tie.Need-overflow-mul-reader
-mul-reader c = omega (arith, reads (search))
-
-element-copy-out-reader : tie.Need-element-copy-out-reader
-element-copy-out-reader c = omega (arith, reads (search))
-
-lock-cell-requires : tie.Need-lock-cell-requires
-lock-cell-requires c κs = search rules
-
-counted-requires : tie.Need-counted-requires
-counted-requires c κs = search rules
-
-mul-read : tie.Need-overflow-mul-read
-mul-read c = omega (arith, reads (search))
-
-element-set-from-read : tie.Need-element-set-from-read
-element-set-from-read c = omega (arith, reads (search))
+mark-cell-requires : tie.Need-mark-cell-requires
+mark-cell-requires c κs = search rules
 
 enum-known-change-3 : tie.Need-enum-known-change-3
 enum-known-change-3 c = search rules
 
-mark-cell-requires : tie.Need-mark-cell-requires
-mark-cell-requires c κs = search rules
+mark-cell-requires-2 : tie.Need-mark-cell-requires-2
+mark-cell-requires-2 c κs = search rules
 
 mul-h-2 : tie.Need-overflow-mul-h-2
 mul-h-2 c = omega (arith, writes (search))
 
 element-write-h-2 : tie.Need-element-write-h-2
 element-write-h-2 c = omega (arith, writes (search))
-
-mul-writer : tie.Need-overflow-mul-writer
-mul-writer c = omega (arith, writes (search))
-
-element-copy-out-writer : tie.Need-element-copy-out-writer
-element-copy-out-writer c = omega (arith, writes (search))
-
-counted-requires-2 : tie.Need-counted-requires-2
-counted-requires-2 c κs = search rules
-
-mul-wrote : tie.Need-overflow-mul-wrote
-mul-wrote c = omega (arith, writes (search))
-
-element-set-from-wrote : tie.Need-element-set-from-wrote
-element-set-from-wrote c = omega (arith, writes (search))
 
 enum-known-change-4 : tie.Need-enum-known-change-4
 enum-known-change-4 c = search rules
@@ -197,15 +159,6 @@ element-set-from-seat c = omega (arith, certifies (search))
 enum-known-change-5 : tie.Need-enum-known-change-5
 enum-known-change-5 c = search rules
 
-mul-leaver : tie.Need-overflow-mul-leaver
-mul-leaver c = omega (arith, ends (search))
-
-element-copy-out-leaver : tie.Need-element-copy-out-leaver
-element-copy-out-leaver c = omega (arith, ends (search))
-
-forget-requires : tie.Need-forget-requires
-forget-requires c κs = search rules
-
 has-claimed-requires : tie.Need-has-claimed-requires
 has-claimed-requires c κs = search rules
 
@@ -233,18 +186,6 @@ mul_left c = omega (arith, ends (search))
 element-set-from-left : tie.Need-element-set-from-left
 element-set-from-left c = omega (arith, ends (search))
 
-enum-known-change-6 : tie.Need-enum-known-change-6
-enum-known-change-6 c = search rules
-
-save-requires : tie.Need-save-requires
-save-requires c κs = search rules
-
-enum-known-change-7 : tie.Need-enum-known-change-7
-enum-known-change-7 c = search rules
-
-return-to-requires : tie.Need-return-to-requires
-return-to-requires c κs = search rules
-
 returns-2 : tie.Need-returns-2
 returns-2 c = made (search) _ (search kept_is)
 
@@ -266,12 +207,6 @@ returns-6 c =
 returns-7 : tie.Need-returns-7
 returns-7 c = made (search) _ (search (ended (search)))
 
-returns-8 : tie.Need-returns-8
-returns-8 c = made (search) _ (search saved_is)
-
-returns-9 : tie.Need-returns-9
-returns-9 c = made (search) _ (search returned_is)
-
 pub perform_spec : {M : Type 1} → statement M
 perform_spec =
     tie.close
@@ -289,21 +224,11 @@ perform_spec =
     mul-h
     element-write-h
     enum-known-change-2
-    mul-reader
-    element-copy-out-reader
-    lock-cell-requires
-    counted-requires
-    mul-read
-    element-set-from-read
-    enum-known-change-3
     mark-cell-requires
+    enum-known-change-3
+    mark-cell-requires-2
     mul-h-2
     element-write-h-2
-    mul-writer
-    element-copy-out-writer
-    counted-requires-2
-    mul-wrote
-    element-set-from-wrote
     enum-known-change-4
     gives-at-requires
     signal-readers-requires
@@ -314,9 +239,6 @@ perform_spec =
     mul-seat
     element-set-from-seat
     enum-known-change-5
-    mul-leaver
-    element-copy-out-leaver
-    forget-requires
     has-claimed-requires
     commit-items-requires
     drop-pending-requires
@@ -326,15 +248,9 @@ perform_spec =
     left-free-requires
     mul_left
     element-set-from-left
-    enum-known-change-6
-    save-requires
-    enum-known-change-7
-    return-to-requires
     returns-2
     returns-3
     returns-4
     returns-5
     returns-6
-    returns-7
-    returns-8
-    returns-9)
+    returns-7)

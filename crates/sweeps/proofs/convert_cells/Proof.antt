@@ -1,8 +1,7 @@
 use Prim.Native.Nat.{◌-◌, ◌%◌}
 use Rattle.house.proofs.Lists.{Sofar, sofar_none}
 use Rattle.house.specs.Rules.{converted_cell}
-use Rattle.signals.proofs.Sweep.{cellwise, all_cells}
-use Rattle.sweeps.proofs.Rounds.{below, converted_one}
+use Rattle.sweeps.proofs.Rounds.{cellwise, below, converted_one, all_cells}
 use borrow.Author.Rules.{rules}
 use Rattle.sweeps.proofs.convert_cells.Statement.{statement}
 use Rattle.sweeps.proofs.convert_cells.Tie as tie

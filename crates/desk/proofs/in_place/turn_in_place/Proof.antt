@@ -25,11 +25,8 @@ use Rattle.ruling.specs.Judged.{Judged}
 use Rattle.ruling.specs.Ruling.{fits, effect, answer_of, change_of}
 use Rattle.ruling.specs.declared.Change.{Change}
 use Rattle.ruling.specs.declared.Ruling.{Ruling}
-use Rattle.signals.specs.Sweep.{swept}
-use Rattle.sweeps.proofs.Changes.{begin_there, read_there, write_there, certify_there, end_there, kept_is, begun_is, read_is, written_is, certified_is, ended_is}
-use Rattle.sweeps.proofs.Whole.{went_later, none_later}
-use Rattle.labels.proofs.Changes.{saved_is}
-use Rattle.returns.proofs.Changes.{returned_is}
+use Rattle.sweeps.specs.Sweep.{swept}
+use Rattle.sweeps.proofs.Changes.{begin_there, write_there, certify_there, end_there, kept_is, begun_is, read_is, written_is, certified_is, ended_is}
 use Rattle.desk.proofs.Laws.{housed_more, written_more, turned_at, answered_at, finally_keeps}
 use Rattle.step.proofs.Requests.{holder_there, change_there, stepping, refusing, delaying, granting}
 use Rattle.desk.proofs.in_place.turn_in_place.Statement.{statement}
@@ -69,7 +66,7 @@ promised c = c.judge.ensures
 
 -- the lists are as long as the arrays, from round to round
 came_sized : (c : tie.Start invariant-loop decreases-loop) → Sizes c.args.h
-came_sized c = record { order = search rules; items = search (rules, length_mapped); pending = search rules; places = search (rules, length_mapped); next = search rules; cells = search rules; saved = search rules; counts = search rules }
+came_sized c = record { order = search rules; items = search (rules, length_mapped); pending = search rules; places = search (rules, length_mapped); next = search rules; cells = search rules }
 
 sizes : (c : tie.After-judge invariant-loop decreases-loop) → Sizes (held c)
 sizes c = rw (round c).loop.invariant.2 (finally_keeps Sizes stepped_sizes _ (came_sized (lent c)) _)
@@ -138,9 +135,6 @@ more c g made =
 begins : (c : tie.After-change invariant-loop decreases-loop) → (c.change.given.0.0 < 4) × (c.change.given.0.1.0 < 32)
 begins c = begin_there _ (fitting (search)) _ _ c.change.given.1
 
-reads : (c : tie.After-change2 invariant-loop decreases-loop) → (c.change2.given.0.0 < 32) × (c.change2.given.0.1.0 < 64)
-reads c = read_there _ (fitting (search)) _ _ c.change2.given.1
-
 writes : (c : tie.After-change3 invariant-loop decreases-loop) → (c.change3.given.0.0 < 32) × (c.change3.given.0.1.0 < 64)
 writes c = write_there _ (fitting (search)) _ _ _ c.change3.given.1
 
@@ -150,28 +144,26 @@ certifies c = certify_there _ (fitting (search)) _ c.change4.given.1
 ends : (c : tie.After-change5 invariant-loop decreases-loop) → c.change5.given.0.0 < 32
 ends c = end_there _ (fitting (search)) _ _ c.change5.given.1
 
--- an end, once its three tests have met: with the signals given, the cells cleared and the place left it is the effect
+-- an end, once its two tests have met: with the signals given, the cells cleared and the place left it is the effect
 
-abbrev ending : tie.Joined3 invariant-loop decreases-loop → tie.After-change5 invariant-loop decreases-loop
+abbrev ending : tie.Joined2 invariant-loop decreases-loop → tie.After-change5 invariant-loop decreases-loop
 ending c = search
 
-abbrev whose : tie.Joined3 invariant-loop decreases-loop → tie.After-change-of invariant-loop decreases-loop
+abbrev whose : tie.Joined2 invariant-loop decreases-loop → tie.After-change-of invariant-loop decreases-loop
 whose c = search
 
-ended : (c : tie.Joined3 invariant-loop decreases-loop) → let me = (ending c).change5.given.0.0 in let commits = (ending c).change5.given.0.1.0 in let h = c.if3.h in
+ended : (c : tie.Joined2 invariant-loop decreases-loop) → let me = (ending c).change5.given.0.0 in let commits = (ending c).change5.given.0.1.0 in let h = c.if2.h in
     (cells given : List ℕ) → cells ≡ swept (cleared_cell (me % 32)) given
     → (gives : Bool) → given ≡ swept (signalled_cell (commits && gives) h.order h.cells (me % 32)) h.cells → gives ≡ eqb (signals_at h.rule) commit
     → (place : Place) → place ≡ vacant → with_place (with_cells h cells) me place ≡ effect (held (judged (whose c))) (change (whose c))
 ended c =
-    let f : tie.Joined1 invariant-loop decreases-loop = search in
     let k : tie.After-has-claimed invariant-loop decreases-loop = search in
-    let i : tie.Joined2 invariant-loop decreases-loop = search in
-    let items = with_items f.if1.h in
-    let pending = with_pending i.if2.h in
-    ended_is _ (fitting (whose c)) _ (sizes (judged (whose c))) _ _ (ending c).change5.given.1
-    f.if1.h (⊎_elim (λ w. search went_later) (λ w. none_later _ _ _ _ _ w.0.left w.1) f.if1.came) _ k.has_claimed.ensures
-    i.if2.h (⊎_elim (λ w. search (went items)) (λ w. search (passed items)) i.if2.came)
-    c.if3.h (⊎_elim (λ w. search (went pending)) (λ w. search (passed pending)) c.if3.branch)
+    let i : tie.Joined1 invariant-loop decreases-loop = search in
+    let items = with_items (held (judged (whose c))) in
+    let pending = with_pending i.if1.h in
+    ended_is _ (fitting (whose c)) _ (sizes (judged (whose c))) _ _ (ending c).change5.given.1 _ k.has_claimed.ensures
+    i.if1.h (⊎_elim (λ w. search (went items)) (λ w. search (passed items)) i.if1.came)
+    c.if2.h (⊎_elim (λ w. search (went pending)) (λ w. search (passed pending)) c.if2.branch)
 
 least-requires : tie.Need-least-requires invariant-loop decreases-loop
 least-requires c κs = search rules
@@ -378,23 +370,8 @@ loop-again-2 c = more (search) _ (search begun_is)
 enum-known-change-2 : tie.Need-enum-known-change-2 invariant-loop decreases-loop
 enum-known-change-2 c = search rules
 
-mul-reader : tie.Need-overflow-mul-reader invariant-loop decreases-loop
-mul-reader c = omega (arith, reads (search))
-
-element-copy-out-reader : tie.Need-element-copy-out-reader invariant-loop decreases-loop
-element-copy-out-reader c = omega (arith, reads (search))
-
-lock-cell-requires : tie.Need-lock-cell-requires invariant-loop decreases-loop
-lock-cell-requires c κs = search rules
-
-counted-requires : tie.Need-counted-requires invariant-loop decreases-loop
-counted-requires c κs = search rules
-
-mul-read : tie.Need-overflow-mul-read invariant-loop decreases-loop
-mul-read c = omega (arith, reads (search))
-
-element-set-from-read : tie.Need-element-set-from-read invariant-loop decreases-loop
-element-set-from-read c = omega (arith, reads (search))
+mark-cell-requires : tie.Need-mark-cell-requires invariant-loop decreases-loop
+mark-cell-requires c κs = search rules
 
 loop-less-3 : tie.Need-loop-smaller-3 invariant-loop decreases-loop
 loop-less-3 c = less (judged (search))
@@ -405,29 +382,14 @@ loop-again-3 c = more (search) _ (search read_is)
 enum-known-change-3 : tie.Need-enum-known-change-3 invariant-loop decreases-loop
 enum-known-change-3 c = search rules
 
-mark-cell-requires : tie.Need-mark-cell-requires invariant-loop decreases-loop
-mark-cell-requires c κs = search rules
+mark-cell-requires-2 : tie.Need-mark-cell-requires-2 invariant-loop decreases-loop
+mark-cell-requires-2 c κs = search rules
 
 mul-h-2 : tie.Need-overflow-mul-h-2 invariant-loop decreases-loop
 mul-h-2 c = omega (arith, writes (search))
 
 element-write-h-2 : tie.Need-element-write-h-2 invariant-loop decreases-loop
 element-write-h-2 c = omega (arith, writes (search))
-
-mul-writer : tie.Need-overflow-mul-writer invariant-loop decreases-loop
-mul-writer c = omega (arith, writes (search))
-
-element-copy-out-writer : tie.Need-element-copy-out-writer invariant-loop decreases-loop
-element-copy-out-writer c = omega (arith, writes (search))
-
-counted-requires-2 : tie.Need-counted-requires-2 invariant-loop decreases-loop
-counted-requires-2 c κs = search rules
-
-mul-wrote : tie.Need-overflow-mul-wrote invariant-loop decreases-loop
-mul-wrote c = omega (arith, writes (search))
-
-element-set-from-wrote : tie.Need-element-set-from-wrote invariant-loop decreases-loop
-element-set-from-wrote c = omega (arith, writes (search))
 
 loop-less-4 : tie.Need-loop-smaller-4 invariant-loop decreases-loop
 loop-less-4 c = less (judged (search))
@@ -477,15 +439,6 @@ loop-again-5 c =
 enum-known-change-5 : tie.Need-enum-known-change-5 invariant-loop decreases-loop
 enum-known-change-5 c = search rules
 
-mul-leaver : tie.Need-overflow-mul-leaver invariant-loop decreases-loop
-mul-leaver c = omega (arith, ends (search))
-
-element-copy-out-leaver : tie.Need-element-copy-out-leaver invariant-loop decreases-loop
-element-copy-out-leaver c = omega (arith, ends (search))
-
-forget-requires : tie.Need-forget-requires invariant-loop decreases-loop
-forget-requires c κs = search rules
-
 has-claimed-requires : tie.Need-has-claimed-requires invariant-loop decreases-loop
 has-claimed-requires c κs = search rules
 
@@ -517,37 +470,7 @@ loop-less-6 : tie.Need-loop-smaller-6 invariant-loop decreases-loop
 loop-less-6 c = less (judged (search))
 
 loop-again-6 : tie.Need-loop-preserved-6 invariant-loop decreases-loop
-loop-again-6 c =
-    let j : tie.Joined3 invariant-loop decreases-loop = search in
-    let g : tie.After-gives-at2 invariant-loop decreases-loop = search in
-    let s : tie.After-signal-readers2 invariant-loop decreases-loop = search in
-    let v : tie.After-clear-cells invariant-loop decreases-loop = search in
-    let p : tie.After-left-free invariant-loop decreases-loop = search in
-    more (whose j) _ (λ f z. ended j _ _ v.clear_cells.ensures _ s.signal-readers2.ensures g.gives-at2.ensures _ p.left_free.ensures)
-
-enum-known-change-6 : tie.Need-enum-known-change-6 invariant-loop decreases-loop
-enum-known-change-6 c = search rules
-
-save-requires : tie.Need-save-requires invariant-loop decreases-loop
-save-requires c κs = search rules
-
-loop-less-7 : tie.Need-loop-smaller-7 invariant-loop decreases-loop
-loop-less-7 c = less (judged (search))
-
-loop-again-7 : tie.Need-loop-preserved-7 invariant-loop decreases-loop
-loop-again-7 c = more (search) _ (search saved_is)
-
-enum-known-change-7 : tie.Need-enum-known-change-7 invariant-loop decreases-loop
-enum-known-change-7 c = search rules
-
-return-to-requires : tie.Need-return-to-requires invariant-loop decreases-loop
-return-to-requires c κs = search rules
-
-loop-less-8 : tie.Need-loop-smaller-8 invariant-loop decreases-loop
-loop-less-8 c = less (judged (search))
-
-loop-again-8 : tie.Need-loop-preserved-8 invariant-loop decreases-loop
-loop-again-8 c = more (search) _ (search returned_is)
+loop-again-6 c = more (search) _ (search (ended (search)))
 
 same_length : tie.Need-same-length invariant-loop decreases-loop
 same_length c = search rules
@@ -629,23 +552,13 @@ turn_in_place_spec =
     loop-less-2
     loop-again-2
     enum-known-change-2
-    mul-reader
-    element-copy-out-reader
-    lock-cell-requires
-    counted-requires
-    mul-read
-    element-set-from-read
+    mark-cell-requires
     loop-less-3
     loop-again-3
     enum-known-change-3
-    mark-cell-requires
+    mark-cell-requires-2
     mul-h-2
     element-write-h-2
-    mul-writer
-    element-copy-out-writer
-    counted-requires-2
-    mul-wrote
-    element-set-from-wrote
     loop-less-4
     loop-again-4
     enum-known-change-4
@@ -660,9 +573,6 @@ turn_in_place_spec =
     loop-less-5
     loop-again-5
     enum-known-change-5
-    mul-leaver
-    element-copy-out-leaver
-    forget-requires
     has-claimed-requires
     commit-items-requires
     drop-pending-requires
@@ -674,13 +584,5 @@ turn_in_place_spec =
     element-set-from-left
     loop-less-6
     loop-again-6
-    enum-known-change-6
-    save-requires
-    loop-less-7
-    loop-again-7
-    enum-known-change-7
-    return-to-requires
-    loop-less-8
-    loop-again-8
     same_length
     returns)

@@ -1,4 +1,0 @@
-mod Rounds
-mod Houses
-pub mod Changes
-pub mod Settled

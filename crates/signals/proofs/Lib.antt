@@ -1,3 +1,0 @@
-pub mod Sweep
-pub mod Rounds
-pub mod Settled
