@@ -1,15 +1,17 @@
 // The types of the desk: the house it keeps, the requests it takes, the replies it gives.
 // What they mean, and what the desk does with them, is said in specs/.
 
+#![tactic(auto)]
+
 // A row of the committed table. Its level is fixed.
-#[derive(Drop)]
+#[derive(Clone, Copy)]
 pub struct Item {
     pub level: u8,
     pub value: u32,
     pub version: u32,
 }
 
-#[derive(Drop)]
+#[derive(Clone, Copy)]
 pub enum Standing {
     Free,
     Active,
@@ -17,14 +19,14 @@ pub enum Standing {
 }
 
 // Where a transaction stands while it is open. The ticket of a free place is 0.
-#[derive(Drop)]
+#[derive(Clone, Copy)]
 pub struct Place {
     pub standing: Standing,
     pub ticket: u32,
 }
 
 // When the signals are given: at certify, or at commit (specs/Rules.antt, `signals_at`).
-#[derive(Drop)]
+#[derive(Clone, Copy)]
 pub enum Rule {
     A,
     B,
@@ -35,7 +37,7 @@ pub enum Rule {
 // value, 0 when nobody has written" in a table beside it, which, being of numbers, can be lent. Place p of level l is number
 // l * 8 + p; a cell is a byte, the sum of the weights of its marks, and the cells of one place lie together, so that a
 // transaction's own 64 are scanned in one sweep. The rule, a byte, stands last, so that the tables lie where they did.
-#[derive(Drop)]
+#[derive(Clone, Copy)]
 pub struct House {
     pub count: usize,
     pub order: [u8; 16],
@@ -48,7 +50,7 @@ pub struct House {
 }
 
 // The marks that a lock cell may have.
-#[derive(Drop)]
+#[derive(Clone, Copy)]
 pub enum Mark {
     Read,
     Write,
@@ -56,7 +58,7 @@ pub enum Mark {
     Signalled,
 }
 
-#[derive(Drop)]
+#[derive(Clone, Copy)]
 pub struct Request {
     pub operation: u8,
     pub level: u8,
@@ -65,7 +67,7 @@ pub struct Request {
     pub value: u32,
 }
 
-#[derive(Drop)]
+#[derive(Clone, Copy)]
 pub struct Reply {
     pub number: u8,
     pub operation: u8,
@@ -76,14 +78,14 @@ pub struct Reply {
 }
 
 // What a search answers.
-#[derive(Drop)]
+#[derive(Clone, Copy)]
 pub enum Found {
     At(usize),
     Nobody,
 }
 
 // What a request is answered; specs/Rules.antt (`replied`) gives the number and the values of each.
-#[derive(Drop)]
+#[derive(Clone, Copy)]
 pub enum Answer {
     Refused(u8),
     // the holder's ticket, and its level
@@ -95,14 +97,14 @@ pub enum Answer {
 }
 
 // What a request yields: the next house and the reply.
-#[derive(Drop)]
+#[derive(Clone, Copy)]
 pub struct Outcome {
     pub house: House,
     pub reply: Reply,
 }
 
 // What an opening yields: the house, and 0 or the number of its refusal.
-#[derive(Drop)]
+#[derive(Clone, Copy)]
 pub struct Opening {
     pub number: u8,
     pub house: House,
