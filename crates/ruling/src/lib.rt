@@ -1,10 +1,12 @@
 // What is ruled of a request: refused, delayed, or granted, with the change of the house that goes with it.
 // The judge sees parts of the house and changes nothing; the change is made elsewhere, for done requests only.
 
+#![tactic(auto)]
+
 use house::{Answer, Item, Place, Request};
 
 // What specs/Ruling.antt (`effect`) makes of a house.
-#[derive(Drop)]
+#[derive(Clone, Copy)]
 pub enum Change {
     Nothing,
     // the level, and its place
@@ -19,7 +21,7 @@ pub enum Change {
     End(usize, bool),
 }
 
-#[derive(Drop)]
+#[derive(Clone, Copy)]
 pub enum Ruling {
     Grant(Answer, Change),
     // the holder's place. It may be of a level that the judge is not shown, so the holder is named where the house is
@@ -30,7 +32,7 @@ pub enum Ruling {
 
 // What the judge is shown of a house, beside its cells: the order of the levels, of the request's level the eight places and the next
 // ticket, of its item the row and the pending value.
-#[derive(Drop)]
+#[derive(Clone, Copy)]
 pub struct View {
     pub count: usize,
     pub order: [u8; 16],
@@ -41,7 +43,7 @@ pub struct View {
 }
 
 // A request whose transaction was found: it stands at place `me`, whose row is `seat`.
-#[derive(Drop)]
+#[derive(Clone, Copy)]
 pub struct Case {
     pub request: Request,
     pub count: usize,
