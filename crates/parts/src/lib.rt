@@ -1,6 +1,8 @@
 // What is done with single parts of a house: the marks of one lock cell, a version, a ticket, a row; and the reply to a request.
 // One function serves all four marks; above this crate nobody divides.
 
+#![tactic(auto)]
+
 mod rows;
 
 ghost use Rattle.std.specs.Prelude.{◌≡◌, ◌%◌, eqb};
@@ -73,6 +75,7 @@ pub fn gives_at(rule: Rule, operation: u8) -> bool
     }
 }
 
+#[tactic(auto, unfolding(house::specs::Rules::grown))]
 pub fn grow(version: u32) -> u32
     ensures { result ≡ grown version }
 {
@@ -83,6 +86,7 @@ pub fn grow(version: u32) -> u32
     }
 }
 
+#[tactic(auto, unfolding(house::specs::Rules::ticket_after))]
 pub fn next_ticket(ticket: u32) -> u32
     ensures { result ≡ ticket_after ticket }
 {
