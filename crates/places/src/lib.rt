@@ -1,5 +1,7 @@
 // The searches over the eight places of one level, which are looked at as if they were those of level 0.
 
+#![tactic(auto)]
+
 ghost use Rattle.std.specs.Prelude.{◌≡◌};
 ghost use Rattle.house.specs.House.{is_free, seek, vacancy};
 
@@ -17,6 +19,7 @@ fn is_free(s: Standing) -> bool
 
 // The search goes round from the ticket modulo 8 and stops at the place found. Ticket 0 names nobody: it is told once, before the
 // search, not at each place. A place is mostly passed by its ticket, so that is read by itself.
+#[tactic(auto, using(crate::proofs::Rounds::made, house::proofs::Places::zero_nowhere), unfolding(house::specs::House::seek))]
 pub fn lookup(eight: [Place; 8], ticket: u32) -> Found
     ensures { result ≡ seek eight 0 ticket }
 {
