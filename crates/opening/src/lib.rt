@@ -1,5 +1,7 @@
 // Opening a house from a list of level bytes, a table that says which level dominates which, and the rule of its signals.
 
+#![tactic(auto)]
+
 ghost use Rattle.std.specs.Prelude.{◌≡◌, [], ◌∷◌, ◌<◌, length, get_or};
 ghost use Rattle.house.specs.Checks.{foremost};
 ghost use Rattle.house.specs.Order.{old_chain, large, loose, tied, broken, wrong_at, disordered};
