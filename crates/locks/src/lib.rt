@@ -2,6 +2,8 @@
 // Any number names a place and an item: it is taken modulo 32 and 64, as the sweeps take it.
 // A scan that only says yes or no goes to its end: without a way out of its loop it is compiled to a few wide instructions.
 
+#![tactic(auto)]
+
 ghost use Rattle.std.specs.Prelude.{◌≡◌, true, ◌||◌, ◌*◌, ◌/◌, ◌%◌, ◌<◌};
 ghost use Rattle.house.specs.Search.{any, find};
 ghost use Rattle.house.specs.Cell.{holds, another_holds, first_signalled, count_signalled};

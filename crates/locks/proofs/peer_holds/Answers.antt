@@ -1,0 +1,10 @@
+use mathlib.Core.Path.{refl}
+use borrow.Author.Rules.{rules}
+use Rattle.house.proofs.Searches.{started, searched}
+use Rattle.locks.proofs.peer_holds.Goals as goal
+
+pub loop-p-preserved : goal.loop-p-preserved
+loop-p-preserved c = (search rules, search searched)
+
+pub returns : goal.returns
+returns c = search searched
