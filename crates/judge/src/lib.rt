@@ -1,6 +1,8 @@
 // The judge: what is ruled of a request, over the parts of the house that its level can see. It changes nothing, so a
 // refusal or a delay leaves the house as it was by construction.
 
+#![tactic(auto)]
+
 ghost use Rattle.std.specs.Prelude.{◌≡◌, ◌||◌, ◌+◌, ◌*◌, ◌<◌, leb};
 ghost use Rattle.house.specs.Cell.{is_signalled};
 ghost use Rattle.house.specs.House.{is_active, is_certified, vacancy};

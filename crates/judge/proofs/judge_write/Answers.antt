@@ -1,0 +1,38 @@
+-- Each return is `search followed`: it goes through `write_checks` as the code went through its tests, wherever those stand. A check that is
+-- inserted brings its own goal and moves no other.
+use Rattle.house.proofs.Branches.{followed}
+use Rattle.judge.proofs.Laws.{held, unheld, listed}
+use Rattle.ruling.specs.Judged.{write_ruled}
+use Rattle.judge.proofs.judge_write.Goals as goal
+
+pub returns-then-lacks_item : goal.returns-then-lacks_item
+unfolding write_ruled
+returns-then-lacks_item c = search followed depth 20
+
+pub returns-then-x-q : goal.returns-then-x-q
+unfolding write_ruled
+returns-then-x-q c = search followed depth 20
+
+pub returns-then-q-eq0 : goal.returns-then-q-eq0
+unfolding write_ruled
+returns-then-q-eq0 c = search followed depth 20
+
+pub returns-then-is_signalled : goal.returns-then-is_signalled
+unfolding write_ruled
+returns-then-is_signalled c = search followed depth 20
+
+pub returns-then-is_certified : goal.returns-then-is_certified
+unfolding write_ruled
+returns-then-is_certified c = search followed depth 20
+
+pub returns-then-x-ge4294967295 : goal.returns-then-x-ge4294967295
+unfolding write_ruled
+returns-then-x-ge4294967295 c = search followed depth 20
+
+pub returns-in-At : goal.returns-in-At
+unfolding write_ruled
+returns-in-At c = search (followed, held, listed) depth 20
+
+pub returns : goal.returns
+unfolding write_ruled
+returns c = search (followed, unheld, listed) depth 20
