@@ -2,6 +2,8 @@
 // transaction at place `me`.
 // Any number names a place and an item: it is taken modulo 32 and 64, as the desk takes the level and the item of a request.
 
+#![tactic(auto)]
+
 ghost use Rattle.std.specs.Prelude.{◌≡◌, false, cond, ◌||◌, [], ◌∷◌, map, ◌<◌, ◌%◌, get_or, eqb};
 ghost use Rattle.house.specs.declared.Mark.TheVariants.{Read, Write, Certify, Signalled};
 ghost use Rattle.house.specs.Search.{any, map_from};
