@@ -1,6 +1,8 @@
 // The change that goes with a ruling, made of a house that is given and handed back. It is made for done requests only, and only
 // where a house has the level, the place and the item that it names.
 
+#![tactic(auto)]
+
 ghost use Rattle.std.specs.Prelude.{◌≡◌};
 ghost use Rattle.ruling.specs.Ruling.{fits, effect_if_fit};
 
@@ -57,7 +59,8 @@ pub fn perform(h: House, change: Change) -> House
         }
         Change::End(me, commits) => {
             let claimed = has_claimed(&h.cells, me);
-            if claimed & commits {
+            let saves = claimed & commits;
+            if saves {
                 let items = h.items;
                 let committed = commit_items(items, &h.pending, &h.cells, me);
                 h.items = committed;
