@@ -1,5 +1,7 @@
 // One request, by value: the judge, and then the change that it names. A refusal or a delay hands back the house that came.
 
+#![tactic(auto)]
+
 ghost use Rattle.std.specs.Prelude.{◌≡◌};
 ghost use Rattle.house.specs.Rules.{stepped};
 
