@@ -1,5 +1,7 @@
 // Requests and replies on the wire: any 12 bytes are a request, and every reply is 16 bytes.
 
+#![tactic(auto)]
+
 ghost use Rattle.std.specs.Prelude.{◌≡◌, ◌+◌, ◌*◌};
 ghost use Rattle.wire.specs.Wire.{request_at, request_bytes, reply_bytes};
 
