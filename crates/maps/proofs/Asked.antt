@@ -5,7 +5,7 @@ use native.Mathlib.Nat.{add-zero}
 use native.Mathlib.Numerals.{add-one}
 use native.Mathlib.Omega.{arith}
 use mathlib.Core.Path.{◌≡◌, sym, ap, ap₂, ◌∙◌}
-use mathlib.Core.List.{List, [], ◌∷◌, ◌++◌, append_assoc, map_append}
+use mathlib.Core.List.{List, [], ◌∷◌, ◌++◌, append_assoc, map-append}
 use lib.ListN.{length, get_or, take, drop}
 use lib.Seq.{length-take-le, take_all, take-suc, drop_at, paste}
 use mir.Syntax.{w16, w32}
@@ -54,7 +54,7 @@ module _ (k : ℕ) (b : List ℕ) (q : Request) (long : k * 12 ≤ length b) whe
   requests_put f = requests_last k put ∙ ap₂ (λ l r. l ++ (r ∷ [])) same_before (put_there f)
 
 reads_last : (level ticket : ℕ) (items : List ℕ) (k : ℕ) → k < length items → reads level ticket (take (k + 1) items) ≡ reads level ticket (take k items) ++ (read_of level ticket (get_or items k 0) ∷ [])
-reads_last level ticket items k l = rw (add-one k, take-suc items k 0 l) (map_append (read_of level ticket) (take k items) (get_or items k 0 ∷ []))
+reads_last level ticket items k l = rw (add-one k, take-suc items k 0 l) (map-append (read_of level ticket) (take k items) (get_or items k 0 ∷ []))
 
 -- the requests so far read the items so far, and one more is put
 module _ (level ticket : ℕ) (items : List ℕ) (k : ℕ) (b : List ℕ) (so : requests k b ≡ reads level ticket (take k items)) where

@@ -3,7 +3,7 @@
 use Prim.Native.Nat.{ℕ, zero, suc, ◌+◌, ◌-◌, ◌*◌, ◌/◌, ◌^◌, ◌<◌, ◌≤◌, min}
 use native.Mathlib.Omega.{arith}
 use mathlib.Core.Path.{◌≡◌, refl, sym, ap, ◌∙◌}
-use mathlib.Core.List.{List, [], ◌∷◌, ◌++◌, append-nil, map_append}
+use mathlib.Core.List.{List, [], ◌∷◌, ◌++◌, append-nil, map-append}
 use lib.ListN.{length, take, drop, length-take, length-drop, length-map, drop_of_length-le}
 use lib.Seq.{length-take-le, take_all, take-add, take-take, take_at}
 use borrow.Rule.Slice.PartMut.{put_mid}
@@ -64,7 +64,7 @@ module _ (level ticket : ℕ) (items : List ℕ) (n : ℕ) (h : House) where
     new = reads level ticket (take m (drop n items))
 
     both : reads level ticket (take (n + m) items) ≡ old ++ new
-    both = rw (take-add n m items) (map_append (read_of level ticket) (take n items) (take m (drop n items)))
+    both = rw (take-add n m items) (map-append (read_of level ticket) (take n items) (take m (drop n items)))
 
     housed_add : finally housed_at new ≡ finally h (reads level ticket (take (n + m) items))
     housed_add = sym (rw both (finally_append h old new))

@@ -1,6 +1,8 @@
 // A whole map at once (CR 2): many items read by one call, as single reads of them would be. The reads go through the desk's own turn,
 // up to 64 at a time, as the bytes of their requests; so a map has no rule of its own, and whatever a turn learns, it knows.
 
+#![tactic(auto)]
+
 ghost use Rattle.std.specs.Prelude.{◌≡◌, ◌+◌, ◌≤◌, min, length, take};
 ghost use Rattle.std.proofs.Math.Seq.{paste};
 ghost use Rattle.desk.specs.Turn.{requests};
