@@ -1,6 +1,6 @@
 -- Laws of the bytes that are moved to the front.
 -- Assumes nothing.
-use Prim.Native.Nat.{ℕ, zero, suc, ◌+◌, ◌-◌, ◌<◌, ◌≤◌, min}
+use Prim.Native.Nat.{ℕ, zero, suc, ◌+◌, ◌<◌, ◌≤◌, min}
 use native.Mathlib.Nat.{zero-add, add_comm, zero-min, min-zero, suc-min-suc}
 use native.Mathlib.Omega.{arith}
 use mathlib.Core.Path.{◌≡◌, refl, sym, ap, ◌∙◌}
@@ -32,10 +32,7 @@ module _ (b : List ℕ) (used k : ℕ) where
         let all : k ≡ length (drop used b) = omega arith in
         sofar ∙ rw (all, zero-add (length (drop used b)), take-length (drop used b))
 
--- how many those are, and that there are none
-pub left_past : (b : List ℕ) (used : ℕ) → length b - used ≡ length (drop used b)
-left_past b used = sym (length-drop used b)
-
+-- and where all were used, none are kept
 pub none_kept : (b : List ℕ) (used : ℕ) → length b ≤ used → (0 ≡ length (drop used b)) × (b ≡ kept used b)
 none_kept b used l =
     let none : 0 ≡ length (drop used b) = rw (length-drop used b) (omega arith) in

@@ -36,7 +36,7 @@ cut_short b s =
     let rest = drop (announced b + 1) b in
     misfit (levels b) (table b) (or_right (wrong_length (levels b)) _ (not_of _ (ne_eqb (length (table b)) 16 (λ e. omega (arith, length-take 16 rest, length-drop (announced b + 1) b)))))
 
--- and one whose number is wrongCount, whether it came or not
+-- and one whose number is wrong_count, whether it came or not
 pub none_hoped : (b : List ℕ) → wrong_count (announced b) ≡ true → opening_of b ≡ opening [] [] A
 unfolding wrong_count
 none_hoped b y =

@@ -21,7 +21,7 @@ brought (r ∷ rs) = take r.got r.part ++ brought rs
 abbrev pub filled : List ℕ → ℕ → Read → List ℕ
 filled buffer have r = take have buffer ++ r.part
 
--- what C's `read` promises of it: the part is as long as it was, and it brought no more than that
+-- what `read` promises of it: the part is as long as it was, and it brought no more than that
 abbrev pub Reading : List ℕ → ℕ → Read → Type 0
 Reading buffer have r = (have + length r.part ≡ length buffer) × (r.got ≤ length r.part)
 

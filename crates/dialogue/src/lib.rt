@@ -1,6 +1,8 @@
 // A dialogue with the desk over a stream of bytes: the opening, then requests, in pieces of any size. What is unfinished is
 // left with the caller, who gives it again with what follows it; so a dialogue needs no bytes of its own.
 
+#![tactic(auto)]
+
 ghost use Rattle.std.specs.Prelude.{◌≡◌, ◌+◌, ◌≤◌, ◌<◌, min, length, drop};
 ghost use Rattle.house.specs.Opening.{wrong_count};
 ghost use Rattle.dialogue.specs.Dialogue.{announced, opening_of, decided, refusal, started, ended, serves, opens, fed, kept, heard};
@@ -11,21 +13,21 @@ use opening::open;
 use wire::encode;
 
 // Before the opening came, after it, and after a refused opening, with its number.
-#[derive(Drop)]
+#[derive(Clone, Copy)]
 pub enum Stage {
     Waiting,
     Open,
     Refused(u8),
 }
 
-#[derive(Drop)]
+#[derive(Clone, Copy)]
 pub struct Dialogue {
     pub stage: Stage,
     pub house: House,
 }
 
 // The next dialogue, how many bytes it used, and how many reply bytes were written.
-#[derive(Drop)]
+#[derive(Clone, Copy)]
 pub struct Fed {
     pub dialogue: Dialogue,
     pub used: usize,
@@ -33,7 +35,7 @@ pub struct Fed {
 }
 
 // The next dialogue, how many bytes are kept at the front of the buffer, and how many reply bytes are to be written.
-#[derive(Drop)]
+#[derive(Clone, Copy)]
 pub struct Heard {
     pub dialogue: Dialogue,
     pub have: usize,

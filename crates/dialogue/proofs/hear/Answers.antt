@@ -1,0 +1,5 @@
+use Rattle.dialogue.proofs.Keeping.{heard_is}
+use Rattle.dialogue.proofs.hear.Goals as goal
+
+pub returns : goal.returns
+returns c = search heard_is
