@@ -1,4 +1,4 @@
--- What each operation's change leaves to the others (`-frame`) and has of its own (`-own`), operation by operation.
+-- What each operation's change leaves to the others (`.._frame`) and has of its own (`.._own`), operation by operation.
 -- Assumes nothing.
 use Prim.Native.Nat.{ℕ, ◌+◌, ◌<◌}
 use native.Mathlib.Omega.{arith}

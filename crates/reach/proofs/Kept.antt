@@ -16,7 +16,7 @@ use Rattle.house.specs.declared.Request.{Request}
 use Rattle.house.specs.Cell.{cell_at, holds}
 use Rattle.house.specs.House.{blank, item_at, pending_at, place_at, next_at, is_free}
 use Rattle.house.specs.Order.{PartialOrder}
-use Rattle.house.specs.Rules.{commit, ticket_after, begun, read_by, written_by, wrote, signalled, certified_by, left, committed_by, aborted_by}
+use Rattle.house.specs.Rules.{commit, ticket_after, begun, read_by, written_by, wrote, signalled, certified_by, left, committed_by, aborted_by, stepped}
 use Rattle.house.specs.Run.{finally}
 use Rattle.house.proofs.Tests.{is, same, clash}
 use Rattle.house.proofs.Effects.{begun_place, begun_next, signalled_long, certified_place, left_place, begun_next_other, read_cell_other, written_cell_other, written_pending, written_pending_other}
@@ -280,4 +280,4 @@ step_keeps h K q = let b = turn_both (kept_law K, kept_tidy K) (turn h q) in kep
 pub finally_keeps : {h : House} → Kept h → (qs : List Request) → Kept (finally h qs)
 unfolding finally
 finally_keeps K [] = K
-finally_keeps K (q ∷ qs) = finally_keeps (step_keeps _ K q) qs
+finally_keeps {h = h} K (q ∷ qs) = finally_keeps {h = (stepped h q).house} (step_keeps h K q) qs

@@ -15,7 +15,7 @@ use Rattle.house.specs.declared.Request.{Request}
 use Rattle.house.specs.declared.Rule.{Rule}
 use Rattle.house.specs.Cell.{holds}
 use Rattle.house.specs.House.{item_at}
-use Rattle.house.specs.Rules.{grown, begun, read_by, written_by, wrote, certified_by, left, committed_item, committed_by}
+use Rattle.house.specs.Rules.{grown, begun, read_by, written_by, wrote, certified_by, left, committed_item, committed_by, stepped}
 use Rattle.house.specs.Order.{old_chain}
 use Rattle.house.specs.Opening.{opened}
 use Rattle.house.specs.Run.{finally}
@@ -71,7 +71,7 @@ saved_unsaved u (inr s) = ne_eqb _ 0 s.0 ∙ sym (ne_eqb _ 0 s.1)
 finally_unsaved : {h : House} → Kept h → (i : ℕ) → i < 64 → Unsaved (item_at h.items i) → (qs : List Request) → Unsaved (item_at (finally h qs).items i)
 unfolding finally
 finally_unsaved K i a u [] = u
-finally_unsaved {h} K i a u (q ∷ qs) = finally_unsaved (step_keeps h K q) i a (saved_unsaved u (turn_saves K i a (turn h q))) qs
+finally_unsaved {h = h} K i a u (q ∷ qs) = finally_unsaved {h = (stepped h q).house} (step_keeps h K q) i a (saved_unsaved u (turn_saves K i a (turn h q))) qs
 
 opened_unsaved : (levels table : List ℕ) (rule : Rule) (i : ℕ) → i < 64 → Unsaved (item_at (opened levels table rule).items i)
 opened_unsaved levels table rule i a = rw (opened_item levels table rule i a)

@@ -15,7 +15,7 @@ use Rattle.house.specs.declared.Request.{Request}
 use Rattle.house.specs.Search.{if_found}
 use Rattle.house.specs.Cell.{has, cell_at, holds}
 use Rattle.house.specs.House.{item_at}
-use Rattle.house.specs.Rules.{certify, commit, asker, begun, read_by, written_by, wrote, signals_at, signalled, certified_by, left, stepped}
+use Rattle.house.specs.Rules.{certify, commit, asker, begun, read_by, written_by, signals_at, signalled, certified_by, left, stepped}
 use Rattle.house.proofs.Tests.{is, same, clash}
 use Rattle.house.proofs.Levels.{above_itself}
 use Rattle.house.proofs.Effects.{signalled_long, read_cell_other, written_cell_other}

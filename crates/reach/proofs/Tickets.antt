@@ -56,9 +56,9 @@ begin_gives L (asks me o A) d = clash d (rw (o, and_no _))
 not_again : {h : House} → Kept h → (l t : ℕ) → Issued h l t → (qs : List Request) → among (l, t) (given (trace h qs)) ≡ false
 unfolding trace given
 not_again K l t i [] = refl
-not_again {h} K l t i (q ∷ qs) =
+not_again {h = h} K l t i (q ∷ qs) =
     let L = kept_law K in
-    let rest = not_again (step_keeps h K q) l t (turn_issued L (turn h q) l t i) qs in
+    let rest = not_again {h = (stepped h q).house} (step_keeps h K q) l t (turn_issued L (turn h q) l t i) qs in
     elim (is (done (q, (stepped h q).reply) begin)) [
       | inl d ↦ rw (d, other (begin_gives L (turn h q) d)) rest
       | inr d ↦ rw d rest
@@ -74,11 +74,11 @@ not_again {h} K l t i (q ∷ qs) =
 once : {h : House} → Kept h → (qs : List Request) → distinct same_name (given (trace h qs)) ≡ true
 unfolding trace given
 once K [] = refl
-once {h} K (q ∷ qs) =
+once {h = h} K (q ∷ qs) =
     let K' = step_keeps h K q in
     elim (is (done (q, (stepped h q).reply) begin)) [
-      | inl d ↦ rw (d, not_again K' _ _ (begin_gives (kept_law K) (turn h q) d).out qs) (once K' qs)
-      | inr d ↦ rw d (once K' qs)
+      | inl d ↦ rw (d, not_again K' _ _ (begin_gives (kept_law K) (turn h q) d).out qs) (once {h = (stepped h q).house} K' qs)
+      | inr d ↦ rw d (once {h = (stepped h q).house} K' qs)
     ]
 
 pub tickets_once : TicketsOnce
