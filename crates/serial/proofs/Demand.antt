@@ -45,7 +45,7 @@ opening_untouched levels table rule =
 known : {t : Table} {h : House} {past : Past} → Known t h past → (qs : List Request) → Known t (finally h qs) (reverse_aux (trace h qs) past)
 unfolding finally trace
 known I [] = I
-known I (q ∷ qs) = known (step_known I q) qs
+known {h = h} {past = past} I (q ∷ qs) = known {h = (stepped h q).house} {past = (q, (stepped h q).reply) ∷ past} (step_known I q) qs
 
 -- What is picked from a trace, of two traces
 
