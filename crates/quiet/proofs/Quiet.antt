@@ -26,16 +26,16 @@ module _ (order : List ℕ) (k : ℕ) (b : k < 4) where
   unnoticed : {h g : House} → h.order ≡ order → Kept h → Kept g → Alike k h g → (qs : List Request) → (to_others order k (trace h qs) ≡ replies g (struck order k qs)) × Alike k (finally h qs) (finally g (struck order k qs))
   unfolding trace to_others struck replies finally
   unnoticed o K J A [] = (refl, A)
-  unnoticed {h} {g} o K J A (q ∷ qs) =
+  unnoticed {h = h} {g = g} o K J A (q ∷ qs) =
       let K' = step_keeps h K q in
       let o' = same_order (stepped h q).house h (fixed_stays h q) ∙ o in
       elim (is (stays order k q)) [
         | inl d ↦
             let s = answered_alike k b h g K J A q (rw o d) in
-            let r = unnoticed o' K' (step_keeps g J q) s.1 qs in
+            let r = unnoticed {h = (stepped h q).house} {g = (stepped g q).house} o' K' (step_keeps g J q) s.1 qs in
             rw d (ap₂ ◌∷◌ s.0 r.0, r.1)
         | inr d ↦
-            let r = unnoticed o' K' J (alike_on (alike_back (struck_unseen k b h K q (rw o d))) A) qs in
+            let r = unnoticed {h = (stepped h q).house} {g = g} o' K' J (alike_on (alike_back (struck_unseen k b h K q (rw o d))) A) qs in
             rw d (r.0, r.1)
       ]
 
