@@ -1,0 +1,4 @@
+mod AfterRound
+mod Filled
+mod Moving
+pub mod Telling

@@ -1,0 +1,43 @@
+-- A round moves what it should: what is known where it ends.
+-- Assumes nothing.
+use Rattle.std.proofs.Common.{ℕ, ◌+◌, ◌<◌, ◌≤◌, ◌≡◌, ◌⊎◌, inl, inr, List, ◌++◌, Option, Result, Ok, Err, IsOk, OnOk, length, take, ap, sym, subst, ◌∙◌, arith}
+use Rattle.std.proofs.Math.ListN.{length-append}
+use Rattle.std.proofs.lemmas.List.{length-take-le}
+use Rattle.std.specs.Io.KnownBytes.{Consumes, Appends}
+use Rattle.dialogue.specs.declared.Dialogue.{Dialogue}
+use Rattle.dialogue.specs.declared.Heard.{Heard}
+use Rattle.dialogue.specs.declared.Stage.{Stage}
+use Rattle.dialogue.specs.Dialogue.{heard}
+use Rattle.dialogue.specs.Rounds.{round}
+use Rattle.program.specs.declared.Next.{Next}
+use Rattle.program.specs.declared.Next.TheVariants.{Round, End, Failed}
+use Rattle.program.specs.Moves.{at_next, IsRefused, AfterReplies, Answered}
+
+where_ok : {E T P : Type 0} (r : Result T E) → IsOk r → OnOk r P → P
+where_ok (Ok x) i p = p
+where_ok (Err e) i p = cc
+
+-- what a read brought was heard, and the replies were written
+pub answered : (given left held holds : Option (List ℕ)) (s : Dialogue) (buffer : List ℕ) (have : ℕ) (room part : List ℕ) (got : ℕ) (x : Heard) (after out : List ℕ)
+    → (x, after, out) ≡ heard s (take have buffer ++ part) have got room → have < length buffer → length (take have buffer ++ part) ≡ length buffer → got ≤ length part
+    → Consumes given left (take got part) → Appends held holds (take x.written out)
+    → Answered given left held holds s buffer have room x.dialogue x.have after out
+unfolding round
+answered given left held holds s buffer have room part got x after out e b l g p w =
+    let front = length-take-le have buffer (omega arith) in
+    let long : have + length part ≡ length buffer = ap (λ m. m + length part) (sym front) ∙ sym (length-append (take have buffer) part) ∙ l in
+    record {
+      read = record { part = part; got = got };
+      reading = (long, g);
+      brought = p;
+      dialogue = ap (λ y. y.0.dialogue) e;
+      keeps = ap (λ y. y.0.have) e;
+      front = ap (λ y. y.1) e;
+      written = subst (λ y. Appends held holds (take y.0.written y.2)) e w;
+    }
+
+-- another round and the end come only where the replies were written
+pub comes : {E A P : Type 0} (B C : Type 0) (put : Result (Unit {0}) E) (stage : Stage) (next : Next) → AfterReplies put stage next → OnOk put P → (P → A) → at_next next (A ⊎ B) (C ⊎ (A × IsRefused stage)) (Unit {0})
+comes B C put stage Round i p a = inl (a (where_ok put i p))
+comes B C put stage End i p a = inr (a (where_ok put i.0 p), i.1)
+comes B C put stage (Failed f) i p a = tt
