@@ -2,6 +2,8 @@
 // two arguments there, a pointer and a length. What the types say here the caller in C has to keep: a pointer is valid for its
 // whole length, and the reply bytes overlap no other slice of the call.
 
+#![tactic(auto)]
+
 ghost use Rattle.std.specs.Prelude.{◌≡◌, length};
 ghost use Rattle.desk.specs.Turn.{turned, answered};
 ghost use Rattle.maps.specs.Map.{mapped, filled};
