@@ -1,6 +1,6 @@
 -- The program, round after round, writes what it should.
 -- Assumes nothing.
-use Prim.Native.Nat.{ℕ, ◌+◌, ◌-◌, ◌≤◌, ◌<◌}
+use Prim.Native.Nat.{ℕ, ◌+◌, ◌≤◌, ◌<◌}
 use native.Mathlib.Omega.{arith}
 use mathlib.Core.Path.{◌≡◌, refl, sym, ap, subst, ◌∙◌}
 use mathlib.Core.Logic.{inl, inr}
@@ -12,7 +12,7 @@ use Rattle.dialogue.specs.declared.Dialogue.{Dialogue}
 use Rattle.dialogue.specs.declared.Heard.{Heard}
 use Rattle.dialogue.specs.Dialogue.{at_stage, started, fed, kept, heard}
 use Rattle.dialogue.specs.Pieces.{Enough}
-use Rattle.dialogue.specs.Rounds.{Read, brought, filled, round, Exchanged, ending, told, Reads, Room, AsProgrammed, NeverFull}
+use Rattle.dialogue.specs.Rounds.{Read, brought, filled, round, Exchanged, ending, told, Reads, Room, AsProgrammed, NeverFull, Reading}
 use Rattle.dialogue.proofs.Stages.{waiting, opened, refused, at_stage_lem, fed_within}
 use Rattle.dialogue.proofs.Pieces.{before, expected, Unfinished, Fresh, expected_last, after, leaves_little, fresh_start, nothing_yet, all_expected}
 
@@ -74,13 +74,16 @@ module _ (s : Dialogue) (buffer : List ℕ) (have : ℕ) (room part : List ℕ) 
   pub nothing_brought : have < length buffer → Exchanged s buffer have room s have behind room
   nothing_brought b = inr (refl, refl, take_at (take have buffer) part have (length-take-le have buffer (omega arith)), refl)
 
-  pub bytes_heard : (got : ℕ) (x : Heard) (left out : List ℕ) → (x, left, out) ≡ heard s behind have got room → have < length buffer → length behind ≡ length buffer → got ≤ length (take (length behind - have) (drop have behind)) → Exchanged s buffer have room x.dialogue x.have left out
+  -- what it brought is a read of this buffer, which is as long as before
+  pub brought_read : (got : ℕ) → have < length buffer → length behind ≡ length buffer → got ≤ length part → Reading buffer have (record { part = part; got = got })
+  brought_read got b l g =
+      let front = length-take-le have buffer (omega arith) in
+      (ap (λ m. m + length part) (sym front) ∙ sym (length-append (take have buffer) part) ∙ l, g)
+
+  pub bytes_heard : (got : ℕ) (x : Heard) (left out : List ℕ) → (x, left, out) ≡ heard s behind have got room → have < length buffer → length behind ≡ length buffer → got ≤ length part → Exchanged s buffer have room x.dialogue x.have left out
   unfolding round
   bytes_heard got x left out e b l g =
-      let front = length-take-le have buffer (omega arith) in
-      let long : have + length part ≡ length buffer = ap (λ m. m + length part) (sym front) ∙ sym (length-append (take have buffer) part) ∙ l in
-      let brought : got ≤ length part = omega (arith, simp (length-take, length-drop) at g) in
-      inl (record { part = part; got = got }, (long, brought), (ap (λ y. y.0.dialogue) e, ap (λ y. y.0.have) e, ap (λ y. y.1) e, ap (λ y. y.2) e))
+      inl (record { part = part; got = got }, brought_read got b l g, (ap (λ y. y.0.dialogue) e, ap (λ y. y.0.have) e, ap (λ y. y.1) e, ap (λ y. y.2) e))
 
 -- ROUND AFTER ROUND
 

@@ -1,14 +1,13 @@
 -- A round moves what it should: what is known where it ends.
 -- Assumes nothing.
-use Rattle.std.proofs.Common.{ℕ, ◌+◌, ◌<◌, ◌≤◌, ◌≡◌, ◌⊎◌, inl, inr, List, ◌++◌, Option, Result, Ok, Err, IsOk, OnOk, length, take, ap, sym, subst, ◌∙◌, arith}
-use Rattle.std.proofs.Math.ListN.{length-append}
-use Rattle.std.proofs.lemmas.List.{length-take-le}
+use Rattle.std.proofs.Common.{ℕ, ◌<◌, ◌≤◌, ◌≡◌, ◌⊎◌, inl, inr, List, ◌++◌, Option, Result, Ok, Err, IsOk, OnOk, length, take, ap, subst}
 use Rattle.std.specs.Io.KnownBytes.{Consumes, Appends}
 use Rattle.dialogue.specs.declared.Dialogue.{Dialogue}
 use Rattle.dialogue.specs.declared.Heard.{Heard}
 use Rattle.dialogue.specs.declared.Stage.{Stage}
 use Rattle.dialogue.specs.Dialogue.{heard}
 use Rattle.dialogue.specs.Rounds.{round}
+use Rattle.dialogue.proofs.Rounds.{brought_read}
 use Rattle.program.specs.declared.Next.{Next}
 use Rattle.program.specs.declared.Next.TheVariants.{Round, End, Failed}
 use Rattle.program.specs.Moves.{at_next, IsRefused, AfterReplies, Answered}
@@ -24,11 +23,9 @@ pub answered : (given left held holds : Option (List ℕ)) (s : Dialogue) (buffe
     → Answered given left held holds s buffer have room x.dialogue x.have after out
 unfolding round
 answered given left held holds s buffer have room part got x after out e b l g p w =
-    let front = length-take-le have buffer (omega arith) in
-    let long : have + length part ≡ length buffer = ap (λ m. m + length part) (sym front) ∙ sym (length-append (take have buffer) part) ∙ l in
     record {
       read = record { part = part; got = got };
-      reading = (long, g);
+      reading = brought_read s buffer have room part got b l g;
       brought = p;
       dialogue = ap (λ y. y.0.dialogue) e;
       keeps = ap (λ y. y.0.have) e;

@@ -1,5 +1,4 @@
 use borrow.Author.Rules.{rules}
-use Rattle.house.proofs.Branches.{followed}
 use Rattle.locks.proofs.Laws.{near, hindered}
 use Rattle.locks.proofs.certify_holder.Goals as goal
 

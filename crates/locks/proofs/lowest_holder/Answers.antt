@@ -2,7 +2,7 @@
 use Prim.Native.Nat.{ℕ, ◌+◌, ◌-◌, ◌<◌}
 use native.Mathlib.Omega.{arith}
 use mathlib.Core.Bool.{Bool, true, false}
-use mathlib.Core.Path.{◌≡◌, refl, sym}
+use mathlib.Core.Path.{◌≡◌, sym}
 use Rattle.house.proofs.Searches.{any_some, goes_on, searched}
 use Rattle.house.specs.Search.{any}
 use Rattle.locks.proofs.lowest_holder.Goals as goal

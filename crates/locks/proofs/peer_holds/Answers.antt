@@ -1,6 +1,5 @@
-use mathlib.Core.Path.{refl}
 use borrow.Author.Rules.{rules}
-use Rattle.house.proofs.Searches.{started, searched}
+use Rattle.house.proofs.Searches.{searched}
 use Rattle.locks.proofs.peer_holds.Goals as goal
 
 pub loop-p-preserved : goal.loop-p-preserved

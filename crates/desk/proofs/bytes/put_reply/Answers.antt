@@ -1,10 +1,8 @@
 -- After k rounds the first k bytes of the reply are pasted over those that were lent, and no other (`copied_in`);
--- after sixteen it is the whole reply (`copied_whole`).
+-- after sixteen it is the whole reply.
 use native.Mathlib.Omega.{arith}
-use mathlib.Core.Path.{refl}
-use lib.Seq.{paste-zero}
 use borrow.Author.Rules.{rules}
-use Rattle.desk.proofs.Laws.{copied_in, copied_whole}
+use Rattle.desk.proofs.Laws.{copied_in}
 use Rattle.desk.proofs.bytes.put_reply.Goals as goal
 
 pub loop-k-preserved : goal.loop-k-preserved
