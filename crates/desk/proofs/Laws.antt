@@ -2,12 +2,12 @@
 -- Assumes nothing.
 use Prim.Native.Nat.{ℕ, zero, suc, ◌+◌, ◌*◌, ◌/◌, ◌<◌, ◌≤◌, min}
 use native.Mathlib.Nat.{add-zero, zero-add, add_assoc}
-use native.Mathlib.Numerals.{add-one}
 use native.Mathlib.Omega.{arith}
 use mathlib.Core.Path.{◌≡◌, refl, sym, ap, ap₂, ◌∙◌}
-use mathlib.Core.List.{List, [], ◌∷◌, ◌++◌, append_assoc, append-nil}
-use lib.ListN.{length, get_or, set, take, drop, replicate, length-append, length-drop}
-use lib.Seq.{get_or-take, get_or-drop, drop-drop, take_at, paste, drop-append-add, paste-suc}
+use mathlib.Core.List.{List, [], ◌∷◌, ◌++◌, append_assoc}
+use lib.ListN.{length, get_or, take, drop, length-append, length-drop}
+use lib.Seq.{get_or-take, get_or-drop, drop-drop, take_at, paste, drop-append-add}
+use Rattle.std.specs.Simd.{first_chunks}
 use Rattle.house.specs.declared.House.{House}
 use Rattle.house.specs.declared.Outcome.{Outcome}
 use Rattle.house.specs.declared.Reply.{Reply}
@@ -15,12 +15,9 @@ use Rattle.house.specs.declared.Request.{Request}
 use Rattle.house.specs.Rules.{stepped}
 use Rattle.house.specs.Run.{finally, replies}
 use Rattle.house.proofs.Runs.{finally_append, replies_append}
+use Rattle.step.proofs.Chunks.{piece}
 use Rattle.wire.specs.Wire.{request_at, reply_bytes}
 use Rattle.desk.specs.Turn.{requests, wired, share, written, housed, turned, answered}
-
--- one byte more of a copy
-pub copied : (d : List ℕ) (at : ℕ) (s : List ℕ) (j : ℕ) {out : List ℕ} {v : ℕ} → out ≡ paste d at s j → v ≡ get_or s j 0 → at + j < length d → j < length s → set out (at + j) v ≡ paste d at s (j + 1)
-copied d at s j e f h k = rw (e, f, add-one) (paste-suc d at s j 0 h k)
 
 -- a request is where its bytes are
 pub request_at_drop : (b : List ℕ) (m o : ℕ) → request_at (drop m b) o ≡ request_at b (m + o)
@@ -33,15 +30,12 @@ request_at_take b =
     let at : (k : ℕ) → k < 12 → get_or (take 12 b) k 0 ≡ get_or b k 0 = λ k l. get_or-take 12 b k 0 l in
     rw (at 0 (omega arith), at 1 (omega arith), at 2 (omega arith), at 3 (omega arith), at 4 (omega arith), at 5 (omega arith), at 6 (omega arith), at 7 (omega arith), at 8 (omega arith), at 9 (omega arith), at 10 (omega arith), at 11 (omega arith))
 
--- and copied out byte by byte
-module _ (b : List ℕ) (at k : ℕ) (x : List ℕ) (so : x ≡ paste (replicate 12 0) 0 (drop at b) k) where
-  pub copied_out : at + 12 ≤ length b → k < 12 → set x k (get_or b (at + k) 0) ≡ paste (replicate 12 0) 0 (drop at b) (k + 1)
-  copied_out i l = rw (zero-add k) at (copied (replicate 12 0) 0 (drop at b) k so (sym (get_or-drop at b k 0)) (omega arith) (rw (length-drop at b) (omega arith)))
-
-  pub request_copied : (q : Request) → q ≡ request_at x 0 → k ≤ 12 → 12 ≤ k → q ≡ request_at b at
-  request_copied q e l m =
-      let whole : k ≡ 12 = omega arith in
-      e ∙ rw (so, whole, append-nil (take 12 (drop at b))) (request_at_take (drop at b) ∙ request_at_drop b at 0 ∙ rw (add-zero at))
+-- and the n-th piece of twelve bytes is the request there
+pub request_in : (b : List ℕ) (pieces : List (List ℕ)) → pieces ≡ first_chunks 12 (length b / 12) b → (n : ℕ) → n < length b / 12 → (q : Request) → q ≡ request_at (get_or pieces n []) 0 → q ≡ request_at b (n * 12)
+request_in b pieces cut n h q e =
+    e
+    ∙ rw (cut, piece 12 (length b / 12) b n h)
+    (request_at_take (drop (n * 12) b) ∙ request_at_drop b (n * 12) 0 ∙ rw (add-zero (n * 12)))
 
 -- requests in two parts
 pub requests_add : (n m : ℕ) (b : List ℕ) → requests (n + m) b ≡ requests n b ++ requests m (drop (n * 12) b)
@@ -58,17 +52,9 @@ unfolding requests
 requests_last n b = requests_add n 1 b ∙ rw (request_at_drop b (n * 12) 0, add-zero (n * 12))
 
 -- how long replies are
-length_reply_bytes : (r : Reply) → length (reply_bytes r) ≡ 16
+pub length_reply_bytes : (r : Reply) → length (reply_bytes r) ≡ 16
 unfolding reply_bytes
 length_reply_bytes r = refl
-
--- bytes are put one by one
-module _ (n : ℕ) (b : List ℕ) (at k : ℕ) (x out : List ℕ) (long : length x ≡ n) (so : out ≡ paste b at x k) where
-  pub copied_in : at + n ≤ length b → k < n → set out (at + k) (get_or x k 0) ≡ paste b at x (k + 1)
-  copied_in i l = copied b at x k so refl (omega arith) (omega arith)
-
-  pub copied_whole : (y : List ℕ) → x ≡ y → k ≤ n → n ≤ k → out ≡ paste b at y n
-  copied_whole y is l m = let whole : k ≡ n = omega arith in so ∙ rw (is, whole)
 
 -- the replies to any requests
 pub length_replied : (h : House) (qs : List Request) → length (wired (replies h qs)) ≡ length qs * 16
@@ -121,10 +107,10 @@ module _ (h₀ : House) (input : List ℕ) (n : ℕ) (h : House) (q : Request) (
       (rw (take_at W D (n * 16) long, past, requests_last n input, replied_append h₀ (requests n input) (nth ∷ []), e))
 
 -- a turn has ended where as many are served as the count says
-module _ (h₀ : House) (input room : List ℕ) (most few count n : ℕ) (f : few ≡ min (length input / 12) (length room / 16)) (c : count ≡ min most few) (within : n ≤ count) (past : count ≤ n) where
+module _ (h₀ : House) (input room : List ℕ) (most pieces few count n : ℕ) (p : pieces ≡ length input / 12) (f : few ≡ min most pieces) (c : count ≡ min few (length room / 16)) (within : n ≤ count) (past : count ≤ n) where
   served : n ≡ share most input room
   unfolding share
-  served = let e : n ≡ count = omega arith in e ∙ c ∙ ap (min most) f
+  served = omega arith
 
   pub turned_at : (h : House) → h ≡ housed n h₀ input → record { house = h; count = count } ≡ turned h₀ input room most
   unfolding turned
@@ -145,9 +131,3 @@ length_answered h input room most =
     let n = share most input room in
     length-append (wired (replies h (requests n input))) (drop (n * 16) room)
     ∙ rw (length_wired h n input, length-drop (n * 16) room) (omega (arith, share_fits most input room))
-
--- the house of a turn keeps what each step keeps
-pub finally_keeps : (P : House → Type 0) → ((h : House) → P h → (q : Request) → P (stepped h q).house) → (h : House) → P h → (qs : List Request) → P (finally h qs)
-unfolding finally
-finally_keeps P k h z [] = z
-finally_keeps P k h z (q ∷ qs) = finally_keeps P k (stepped h q).house (k h z q) qs

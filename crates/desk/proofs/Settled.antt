@@ -7,12 +7,12 @@ use borrow.Fn.Kinds as Kinds'
 use borrow.Fn.World
 use contract.Lifetimes
 use denote.Triple.Clauses
-use Rattle.desk.specs.contracts.running.turn as turn
-use Rattle.desk.proofs.running.turn.Kinds as turn_kinds
-use Rattle.desk.proofs.running.turn.Reads as turn_reads
-use Rattle.desk.specs.contracts.in_place.turn_in_place as in_place
-use Rattle.desk.proofs.in_place.turn_in_place.Kinds as in_place_kinds
-use Rattle.desk.proofs.in_place.turn_in_place.Reads as in_place_reads
+use Rattle.desk.specs.contracts.turn as turn
+use Rattle.desk.proofs.turn.Kinds as turn_kinds
+use Rattle.desk.proofs.turn.Reads as turn_reads
+use Rattle.desk.specs.contracts.turn_in_place as in_place
+use Rattle.desk.proofs.turn_in_place.Kinds as in_place_kinds
+use Rattle.desk.proofs.turn_in_place.Reads as in_place_reads
 
 pub turn_settled : (κs : Lifetimes.Lfts 2) (a : World.ArgsD turn.signature κs) (r r' : World.ResD turn.signature κs) (s s' : Clauses.AtExit (Kinds'.ended_of 2 turn_kinds.ps turn_kinds.r) κs) → turn_reads.Post κs a r s → turn_reads.Post κs a r' s' → (r ≡ r') × (s.1.1.0.now ≡ s'.1.1.0.now)
 turn_settled κs a r r' s s' p q = (p.0 ∙ sym q.0, p.1 ∙ sym q.1)

@@ -4,4 +4,5 @@ pub mod Stages
 pub mod Keeping
 pub mod Settled
 pub mod Pieces
+pub mod AfterRound
 pub mod Rounds

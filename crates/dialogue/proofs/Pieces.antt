@@ -12,10 +12,11 @@ use lib.Dec.{eqb, ltb, leb}
 use borrow.Author.Tests.{eqb-true, ltb-true, leb-true}
 use Rattle.house.specs.declared.House.{House}
 use Rattle.house.specs.declared.Rule.TheVariants.{A}
-use Rattle.house.specs.Opening.{wrong_count, opening}
+use Rattle.house.specs.Opening.{wrong_count, number_of, opening}
 use Rattle.house.specs.Run.{finally, replies}
 use Rattle.house.proofs.Runs.{finally_append}
-use Rattle.house.proofs.Tests.{is, and_true, or_elim}
+use Rattle.std.proofs.lemmas.Bool.{cases_Bool, and_parts}
+use Rattle.house.proofs.Tests.{or_elim}
 use Rattle.desk.specs.Turn.{requests, wired, share, housed, turned, answered}
 use Rattle.desk.proofs.Laws.{requests_add, length_wired, replied_append}
 use Rattle.desk.proofs.TwoTurns.{requests_append}
@@ -89,16 +90,16 @@ module _ (b rest : List ℕ) where
       or_elim (leb (header b) (length b)) (ltb 0 (length b) && wrong_count (announced b)) d
       (λ y. came_append (leb-true (header b) (length b) y))
       (λ y.
-      let k = and_true (ltb 0 (length b)) (wrong_count (announced b)) y in
+      let k = and_parts (ltb 0 (length b)) (wrong_count (announced b)) y in
       none_hoped (b ++ rest) (rw (announced_append (ltb-true 0 (length b) k.0)) k.1) ∙ sym (none_hoped b k.1))
 
-  programmed_open : decided b ≡ true → (opening_of b).number ≡ 0 → programmed (b ++ rest) ≡ run_of (opening_of b).house (drop (header b) b ++ rest)
+  programmed_open : decided b ≡ true → number_of (opening_of b) ≡ 0 → programmed (b ++ rest) ≡ run_of (opening_of b).house (drop (header b) b ++ rest)
   unfolding programmed
   programmed_open d z =
       let come = opened_there b z in
       rw (opening_append d, z, announced_append (omega arith), drop-append-le (header b) b rest come)
 
-  programmed_refused : decided b ≡ true → eqb (opening_of b).number 0 ≡ false → programmed (b ++ rest) ≡ (refusal (opening_of b).number, (opening_of b).house)
+  programmed_refused : decided b ≡ true → eqb (number_of (opening_of b)) 0 ≡ false → programmed (b ++ rest) ≡ (refusal (number_of (opening_of b)), (opening_of b).house)
   unfolding programmed
   programmed_refused d z = rw (opening_append d, z)
 
@@ -174,13 +175,13 @@ after_waiting : (s : Dialogue) (bytes room : List ℕ) → s.stage ≡ Waiting �
 unfolding expected Unfinished fed opens
 after_waiting s bytes room w enough =
     let o = opening_of bytes in
-    elim (is (decided bytes)) [
+    elim (cases_Bool (decided bytes)) [
       | inl y ↦ rw (w, y)
-          (elim (is (eqb o.number 0)) [
+          (elim (cases_Bool (eqb (number_of o) 0)) [
             | inl z ↦
-                let zero = eqb-true o.number 0 z in
+                let zero = eqb-true (number_of o) 0 z in
                 rw z (after_serves _ o.house (header bytes) bytes room (opened_there bytes zero) enough (λ future. sym (programmed_open bytes future y zero)))
-            | inr z ↦ rw z (after_drops _ _ o.number bytes room refl (λ future. sym (programmed_refused bytes future y z)))
+            | inr z ↦ rw z (after_drops _ _ (number_of o) bytes room refl (λ future. sym (programmed_refused bytes future y z)))
           ])
       | inr n ↦ rw (w, n) (record { same = λ future. refl; fresh = λ i. i; unfinished = n; little = (undecided bytes n).1 })
     ]

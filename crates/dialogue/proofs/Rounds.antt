@@ -13,10 +13,11 @@ use Rattle.dialogue.specs.declared.Heard.{Heard}
 use Rattle.dialogue.specs.Dialogue.{at_stage, started, fed, kept, heard}
 use Rattle.dialogue.specs.Pieces.{Enough}
 use Rattle.dialogue.specs.Rounds.{Read, brought, filled, round, Exchanged, ending, told, Reads, Room, AsProgrammed, NeverFull, Reading}
+use Rattle.dialogue.proofs.AfterRound.{after_round}
 use Rattle.dialogue.proofs.Stages.{waiting, opened, refused, at_stage_lem, fed_within}
-use Rattle.dialogue.proofs.Pieces.{before, expected, Unfinished, Fresh, expected_last, after, leaves_little, fresh_start, nothing_yet, all_expected}
+use Rattle.dialogue.proofs.Pieces.{before, expected, Unfinished, Fresh, expected_last, leaves_little, fresh_start, nothing_yet, all_expected}
 
--- the buffer stays as long as it was, and what is kept stands at its front
+-- the buffer stays as long as it was
 module _ (used end : ℕ) (buffer : List ℕ) where
   abbrev bytes : List ℕ
   bytes = take end buffer
@@ -29,10 +30,6 @@ module _ (used end : ℕ) (buffer : List ℕ) where
   next_long =
       rw (length-append (kept used bytes) (drop end buffer), length-append (drop used bytes) (drop (length (drop used bytes)) bytes), length-drop (length (drop used bytes)) bytes, length-drop used bytes, length-take end buffer, length-drop end buffer)
       (omega arith)
-
-  next_front : take (length (drop used bytes)) next ≡ drop used bytes
-  unfolding kept
-  next_front = rw (append_assoc (drop used bytes) (drop (length (drop used bytes)) bytes) (drop end buffer)) (take_at (drop used bytes) _ (length (drop used bytes)) refl)
 
 -- A ROUND
 
@@ -105,17 +102,15 @@ module _ (buffer : List ℕ) (have : ℕ) (r : Read) (fits : have + length r.par
   filled_given = ap (λ n. take (n + r.got) (filled buffer have r)) (sym front_long) ∙ take-append-add (take have buffer) r.part r.got
 
 told_expected : (s : Dialogue) (buffer : List ℕ) (have : ℕ) (room : List ℕ) (rs : List Read) → Enough buffer room → Fresh s → Unfinished s (take have buffer) → Reads s buffer have room rs → told s buffer have room rs ≡ expected s (take have buffer ++ brought rs)
-unfolding told brought Reads round heard
+unfolding told brought Reads round
 told_expected s buffer have room [] enough e u rd = rw (append-nil (take have buffer)) (expected_last s (take have buffer) e u)
 told_expected s buffer have room (r ∷ rs) enough e u rd =
     let fill = filled buffer have r in
     let wide : Enough fill room = rw (filled_long buffer have r rd.0.0) enough in
-    let bytes = take (have + r.got) fill in
-    let f = fed s bytes room in
-    let a = after s bytes room (given_enough s fill have r.got room wide) in
-    let front = next_front f.0.used (have + r.got) fill in
-    let next = told_expected f.0.dialogue (next f.0.used (have + r.got) fill) (length (drop f.0.used bytes)) f.1 rs (stays s fill have r.got room wide) (a.fresh e) (rw front a.unfinished) rd.1 in
-    ap (before (take f.0.written f.1)) (goes_on f.0.dialogue _ _ (rw front at next))
+    let x = heard s fill have r.got room in
+    let a = after_round s fill have r.got room wide in
+    let next = told_expected x.0.dialogue x.1 x.0.have x.2 rs (stays s fill have r.got room wide) (a.fresh e) a.unfinished rd.1 in
+    ap (before (take x.0.written x.2)) (goes_on x.0.dialogue _ _ next)
     ∙ a.same (brought rs)
     ∙ ap (λ l. expected s (l ++ brought rs)) (filled_given buffer have r rd.0.0)
     ∙ ap (expected s) (append_assoc (take have buffer) (take r.got r.part) (brought rs))

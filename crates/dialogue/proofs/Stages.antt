@@ -7,7 +7,8 @@ use mathlib.Core.Logic.{inl, inr}
 use mathlib.Core.List.{List}
 use lib.Dec.{eqb}
 use Rattle.house.specs.declared.House.{House}
-use Rattle.house.proofs.Tests.{is}
+use Rattle.house.specs.Opening.{number_of}
+use Rattle.std.proofs.lemmas.Bool.{cases_Bool}
 use Rattle.dialogue.specs.declared.Fed.{Fed}
 use Rattle.dialogue.specs.declared.Dialogue.{Dialogue}
 use Rattle.dialogue.specs.declared.Stage.{Stage}
@@ -28,12 +29,12 @@ at_refused r s n w o x e p = rw e p
 pub ruleset staged = (at_waiting, at_open, at_refused)
 
 -- the stage that a dialogue is at, whatever else it has
-pub data At (s : Stage) : Type 0 where
-  waiting : s ≡ Waiting → At s
-  opened : s ≡ Open → At s
-  refused : (n : ℕ) → s ≡ Refused n → At s
+pub data Some (s : Stage) : Type 0 where
+  waiting : s ≡ Waiting → Some s
+  opened : s ≡ Open → Some s
+  refused : (n : ℕ) → s ≡ Refused n → Some s
 
-pub at_stage_lem : (s : Stage) → At s
+pub at_stage_lem : (s : Stage) → Some s
 at_stage_lem Waiting = waiting refl
 at_stage_lem Open = opened refl
 at_stage_lem (Refused n) = refused n refl
@@ -44,9 +45,9 @@ unfolding fed opens
 fed_cases P s b room serving dropping waited =
     elim (at_stage_lem s.stage) [
       | waiting w ↦ rw w
-          (elim (is (decided b)) [
+          (elim (cases_Bool (decided b)) [
             | inl y ↦ rw y
-                (elim (is (eqb (opening_of b).number 0)) [
+                (elim (cases_Bool (eqb (number_of (opening_of b)) 0)) [
                   | inl z ↦ rw z (serving (opening_of b).house (header b))
                   | inr z ↦ rw z (dropping _)
                 ])

@@ -8,7 +8,7 @@ use Rattle.std.specs.Prelude.{ℕ, ◌+◌, ◌*◌, Bool, ◌&&◌, ◌||◌, c
 use Rattle.house.specs.declared.House.{House}
 use Rattle.house.specs.declared.Opening.{Opening}
 use Rattle.house.specs.declared.Rule.TheVariants.{A}
-use Rattle.house.specs.Opening.{wrong_count, opening}
+use Rattle.house.specs.Opening.{wrong_count, number_of, opening}
 use Rattle.wire.specs.Wire.{reply_bytes}
 use Rattle.desk.specs.Turn.{turned, answered}
 use Rattle.dialogue.specs.declared.Fed.{Fed}
@@ -83,8 +83,8 @@ serves h k bytes room =
 unfoldable pub opens : List ℕ → List ℕ → Fed × List ℕ
 opens bytes room =
     let o = opening_of bytes in
-    cond (eqb o.number 0) (serves o.house (header bytes) bytes room)
-    (drops (record { stage = Refused o.number; house = o.house }) bytes room)
+    cond (eqb (number_of o) 0) (serves o.house (header bytes) bytes room)
+    (drops (record { stage = Refused (number_of o); house = o.house }) bytes room)
 
 unfoldable pub fed : Dialogue → List ℕ → List ℕ → Fed × List ℕ
 fed s bytes room =

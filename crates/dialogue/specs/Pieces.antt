@@ -2,6 +2,7 @@
 -- Assumes nothing. Proved in proofs/Pieces.antt.
 use Rattle.std.specs.Prelude.{ℕ, ◌*◌, ◌/◌, ◌≤◌, ◌≡◌, cond, List, [], ◌∷◌, ◌++◌, length, take, drop, eqb}
 use Rattle.house.specs.declared.House.{House}
+use Rattle.house.specs.Opening.{number_of}
 use Rattle.house.specs.Run.{finally, replies}
 use Rattle.desk.specs.Turn.{whole_requests, wired}
 use Rattle.dialogue.specs.declared.Dialogue.{Dialogue}
@@ -22,7 +23,7 @@ past_opening input = drop (header input) input
 unfoldable pub programmed : List ℕ → List ℕ × House
 programmed input =
     let o = opening_of input in
-    cond (eqb o.number 0) (run_of o.house (past_opening input)) (refusal o.number, o.house)
+    cond (eqb (number_of o) 0) (run_of o.house (past_opening input)) (refusal (number_of o), o.house)
 
 -- a piece of input, and the reply bytes that are lent for it
 abbrev pub Piece : Type 0

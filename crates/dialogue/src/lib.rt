@@ -3,16 +3,16 @@
 
 #![tactic(auto)]
 
-ghost use Rattle.std.specs.Prelude.{◌≡◌, ◌+◌, ◌≤◌, ◌<◌, min, length, drop};
-ghost use Rattle.house.specs.Opening.{wrong_count};
+ghost use Rattle.std.specs.Prelude.{◌≡◌, ◌≤◌, ◌<◌, length, drop};
 ghost use Rattle.dialogue.specs.Dialogue.{announced, opening_of, decided, refusal, started, ended, serves, opens, fed, kept, heard};
 
 use desk::turn;
-use house::{House, Opening, Reply, Rule};
-use opening::open;
+use house::{House, Misfit, Opening, Reply, Rule};
+use opening::{is_wrong_count, open};
 use wire::encode;
 
-// Before the opening came, after it, and after a refused opening, with its number.
+// Before the opening came, after it, and after a refused opening, with its number: a number and no `Misfit`, since `feed`, `hear` and
+// `finish` take a stage with any.
 #[derive(Clone, Copy)]
 pub enum Stage {
     Waiting,
@@ -26,7 +26,7 @@ pub struct Dialogue {
     pub house: House,
 }
 
-// The next dialogue, how many bytes it used, and how many reply bytes were written.
+// The next dialogue, how many bytes it used, and how many reply bytes were written: counts beside bytes that are the caller's, and lent.
 #[derive(Clone, Copy)]
 pub struct Fed {
     pub dialogue: Dialogue,
@@ -34,7 +34,8 @@ pub struct Fed {
     pub written: usize,
 }
 
-// The next dialogue, how many bytes are kept at the front of the buffer, and how many reply bytes are to be written.
+// The next dialogue, how many bytes are kept at the front of the buffer, and how many reply bytes are to be written; the
+// bytes are the caller's here too.
 #[derive(Clone, Copy)]
 pub struct Heard {
     pub dialogue: Dialogue,
@@ -42,14 +43,13 @@ pub struct Heard {
     pub written: usize,
 }
 
+#[tactic(auto, unfolding(crate::specs::Dialogue::started))]
 pub fn start() -> Dialogue
     ensures { result ≡ started }
 {
-    let opening = open(b"", b"", Rule::A);
-    let house = opening.house;
     Dialogue {
         stage: Stage::Waiting,
-        house,
+        house: open(b"", b"", Rule::A).house,
     }
 }
 
@@ -58,12 +58,13 @@ pub fn finish(stage: Stage) -> Stage
     ensures { result ≡ ended stage }
 {
     match stage {
-        Stage::Waiting => Stage::Refused(13),
-        Stage::Open => Stage::Open,
-        Stage::Refused(number) => Stage::Refused(number),
+        Stage::Waiting => Stage::Refused(u8::from(Misfit::Length)),
+        other => other,
     }
 }
 
+// Of any number: that of a stage may be any.
+#[tactic(auto, unfolding(crate::specs::Dialogue::refusal))]
 pub fn refuse(number: u8) -> [u8; 16]
     ensures { result ≡ refusal number }
 {
@@ -80,24 +81,15 @@ pub fn refuse(number: u8) -> [u8; 16]
 fn first(bytes: &[u8]) -> usize
     ensures { (result ≡ announced bytes.now) × (result < 256) }
 {
-    if bytes.len() == 0 {
-        return 0;
-    }
-    bytes[0] as usize
+    usize::from(bytes.first().copied().unwrap_or(0))
 }
 
-// A number of levels that is refused, whatever follows it.
-fn is_wrong_count(n: usize) -> bool
-    ensures { result ≡ wrong_count n }
-{
-    (n == 0) | (64 < n)
-}
-
+#[tactic(auto, unfolding(crate::specs::Dialogue::decided))]
 fn is_decided(bytes: &[u8]) -> bool
     ensures { result ≡ decided bytes.now }
 {
     let n = first(bytes);
-    (n + 17 <= bytes.len()) | ((0 < bytes.len()) & is_wrong_count(n))
+    n + 17 <= bytes.len() || (!bytes.is_empty() && is_wrong_count(n))
 }
 
 // What is cut short is opened as no levels and no table, which gets 13 as well.
@@ -105,12 +97,10 @@ fn open_front(bytes: &[u8]) -> Opening
     ensures { result ≡ opening_of bytes.now }
 {
     let n = first(bytes);
-    let past = n + 1;
-    let end = n + 17;
-    if bytes.len() < end {
+    let Some(table) = bytes.get(n + 1..n + 17) else {
         return open(b"", b"", Rule::A);
-    }
-    open(&bytes[1..past], &bytes[past..end], Rule::A)
+    };
+    open(&bytes[1..n + 1], table, Rule::A)
 }
 
 // The requests past the first k bytes.
@@ -118,39 +108,31 @@ fn serve(h: House, k: usize, bytes: &[u8], replies: &mut [u8]) -> Fed
     requires { k ≤ length bytes.now }
     ensures { (result, replies.new) ≡ serves h k bytes.now replies.old }
 {
-    let t = turn(h, &bytes[k..], replies, bytes.len());
-    let house = t.house;
-    let count = t.count;
-    let asked = count * 12;
-    let used = k + asked;
-    let written = count * 16;
+    let served = turn(h, &bytes[k..], replies, bytes.len());
     Fed {
         dialogue: Dialogue {
             stage: Stage::Open,
-            house,
+            house: served.house,
         },
-        used,
-        written,
+        used: k + served.count * 12,
+        written: served.count * 16,
     }
 }
 
 fn open_and_serve(bytes: &[u8], replies: &mut [u8]) -> Fed
     ensures { (result, replies.new) ≡ opens bytes.now replies.old }
 {
-    let opening = open_front(bytes);
-    let number = opening.number;
-    let house = opening.house;
-    if number == 0 {
-        let k = first(bytes) + 17;
-        return serve(house, k, bytes, replies);
-    }
-    Fed {
-        dialogue: Dialogue {
-            stage: Stage::Refused(number),
-            house,
+    let Opening { misfit, house } = open_front(bytes);
+    match misfit {
+        None => serve(house, first(bytes) + 17, bytes, replies),
+        Some(misfit) => Fed {
+            dialogue: Dialogue {
+                stage: Stage::Refused(u8::from(misfit)),
+                house,
+            },
+            used: bytes.len(),
+            written: 0,
         },
-        used: bytes.len(),
-        written: 0,
     }
 }
 
@@ -158,22 +140,14 @@ fn open_and_serve(bytes: &[u8], replies: &mut [u8]) -> Fed
 pub fn feed(s: Dialogue, bytes: &[u8], replies: &mut [u8]) -> Fed
     ensures { (result, replies.new) ≡ fed s bytes.now replies.old }
 {
-    let stage = s.stage;
-    match stage {
-        Stage::Waiting => {
-            if is_decided(bytes) {
-                return open_and_serve(bytes, replies);
-            }
-            Fed {
-                dialogue: s,
-                used: 0,
-                written: 0,
-            }
-        }
-        Stage::Open => {
-            let house = s.house;
-            serve(house, 0, bytes, replies)
-        }
+    match s.stage {
+        Stage::Waiting if is_decided(bytes) => open_and_serve(bytes, replies),
+        Stage::Waiting => Fed {
+            dialogue: s,
+            used: 0,
+            written: 0,
+        },
+        Stage::Open => serve(s.house, 0, bytes, replies),
         Stage::Refused(_) => Fed {
             dialogue: s,
             used: bytes.len(),
@@ -186,27 +160,9 @@ pub fn feed(s: Dialogue, bytes: &[u8], replies: &mut [u8]) -> Fed
 fn keep(bytes: &mut [u8], used: usize) -> usize
     ensures { (result ≡ length (drop used bytes.old)) × (bytes.new ≡ kept used bytes.old) }
 {
-    if bytes.len() <= used {
-        return 0;
-    }
-    let left = bytes.len() - used;
-    for k in 0..left {
-        bytes[k] = bytes[used + k];
-    }
-    left
-}
-
-// How many bytes of a buffer are filled, with `got` more behind the first `have`.
-fn filled(buffer: &[u8], have: usize, got: usize) -> usize
-    ensures { result ≡ min (have + got) (length buffer.now) }
-{
-    if buffer.len() <= have {
-        return buffer.len();
-    }
-    if buffer.len() - have <= got {
-        return buffer.len();
-    }
-    have + got
+    let used = used.min(bytes.len());
+    bytes.copy_within(used.., 0);
+    bytes.len() - used
 }
 
 // All that stands between a read and a write. The buffer begins with `have` bytes that were not used before, and a read put
@@ -214,12 +170,12 @@ fn filled(buffer: &[u8], have: usize, got: usize) -> usize
 pub fn hear(s: Dialogue, buffer: &mut [u8], have: usize, got: usize, replies: &mut [u8]) -> Heard
     ensures { (result, buffer.new, replies.new) ≡ heard s buffer.old have got replies.old }
 {
-    let end = filled(buffer, have, got);
-    let fed = feed(s, &buffer[..end], replies);
-    let dialogue = fed.dialogue;
-    let left = keep(&mut buffer[..end], fed.used);
+    let end = have.saturating_add(got).min(buffer.len());
+    let bytes = &mut buffer[..end];
+    let fed = feed(s, bytes, replies);
+    let left = keep(bytes, fed.used);
     Heard {
-        dialogue,
+        dialogue: fed.dialogue,
         have: left,
         written: fed.written,
     }

@@ -7,7 +7,7 @@ use Rattle.house.specs.declared.Request.{Request}
 use Rattle.house.specs.declared.Rule.{Rule}
 use Rattle.house.specs.declared.Rule.TheVariants.{A, B}
 use Rattle.house.specs.Order.{old_chain, diamond}
-use Rattle.house.specs.Opening.{opening}
+use Rattle.house.specs.Opening.{number_of, opening}
 use Rattle.house.specs.Run.{Event}
 use Rattle.examples.specs.Words.{begun, reads, writes, certifies, asks, says, Example, given, expected}
 
@@ -103,4 +103,4 @@ openings =
 -- THE STATEMENT: what the desk gives is what the tables say, in every row
 pub record SideBySide : Type 0 where
   pub answered : map given subjects ≡ map expected subjects
-  pub opened : map {B = ℕ × List ℕ × Rule} (λ x. let o = opening x.levels x.table B in (o.number, o.house.order, o.house.rule)) openings ≡ map {B = ℕ × List ℕ × Rule} (λ x. (x.number, x.order, x.rule)) openings
+  pub opened : map {B = ℕ × List ℕ × Rule} (λ x. let o = opening x.levels x.table B in (number_of o, o.house.order, o.house.rule)) openings ≡ map {B = ℕ × List ℕ × Rule} (λ x. (x.number, x.order, x.rule)) openings

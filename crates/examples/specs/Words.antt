@@ -7,7 +7,7 @@ use Rattle.house.specs.declared.Request.{Request}
 use Rattle.house.specs.declared.Rule.{Rule}
 use Rattle.house.specs.House.{place_at}
 use Rattle.house.specs.Rules.{begin, read, write, certify, commit, abort, ask}
-use Rattle.house.specs.Opening.{opening}
+use Rattle.house.specs.Opening.{number_of, opening}
 use Rattle.house.specs.Run.{Event, finally, replies}
 
 -- Requests, with the fields that each uses
@@ -73,7 +73,7 @@ given x =
     let o = opening x.levels x.table x.rule in
     let asked = map (λ e. e.0) (talk x) in
     let places = (finally o.house asked).places in
-    (o.number, replies o.house asked, map (λ s. place_at places s.0) x.places)
+    (number_of o, replies o.house asked, map (λ s. place_at places s.0) x.places)
 
 unfoldable pub expected : Example → Report
 expected x = (0, map (λ e. e.1) (talk x), map (λ s. s.1) x.places)

@@ -10,8 +10,7 @@ use mathlib.Core.Bool.{Bool, true, false, cond, not, ◌&&◌, ◌||◌}
 use mathlib.Core.Logic.{◌≢◌}
 use lib.Dec.{eqb, leb, ltb}
 use borrow.Author.Tests.{eq-eqb, ne_eqb, le-leb, lt-leb, le-ltb, lt-ltb}
-use Rattle.house.specs.declared.Found.{Found}
-use Rattle.house.specs.declared.Found.TheVariants.{At, Nobody}
+use Rattle.std.specs.Prelude.{Option, Some, None}
 use Rattle.house.specs.Search.{if_found}
 
 module _ {A : Type 0} (r x y : A) where
@@ -72,10 +71,10 @@ pub not_both : (r b t u : Bool) → b ≡ t → b ≡ false → r ≡ false → 
 not_both r b t u s n e = rw (sym s ∙ n) e
 
 -- a search that a call made, which answered a
-pub found : {A : Type 0} (r : A) (a who : Found) (k : ℕ) (f : ℕ → A) (x : A) → a ≡ who → a ≡ At k → r ≡ f k → r ≡ if_found who f x
+pub found : {A : Type 0} (r : A) (a who : Option ℕ) (k : ℕ) (f : ℕ → A) (x : A) → a ≡ who → a ≡ Some k → r ≡ f k → r ≡ if_found who f x
 found r a who k f x s e p = rw (sym s ∙ e) p
 
-pub none : {A : Type 0} (r : A) (a who : Found) (f : ℕ → A) (x : A) → a ≡ who → a ≡ Nobody → r ≡ x → r ≡ if_found who f x
+pub none : {A : Type 0} (r : A) (a who : Option ℕ) (f : ℕ → A) (x : A) → a ≡ who → a ≡ None → r ≡ x → r ≡ if_found who f x
 none r a who f x s e p = rw (sym s ∙ e) p
 
 pub ruleset followed = (past_equal, past_unequal, past_key, past_least, past_less, past_both, past_either, past, taken_equal, taken_unequal, taken_least, taken_less, taken_both, taken_either, taken, both, not_both, found, none)

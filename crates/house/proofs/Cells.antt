@@ -14,7 +14,9 @@ use borrow.Author.Tests.{eqb-true, eqb-false, eq-eqb, ne_eqb}
 use Rattle.house.specs.declared.Mark.{Mark}
 use Rattle.house.specs.declared.Mark.TheVariants.{Read, Write, Certify, Signalled}
 use Rattle.house.specs.Cell.{weight, has, marked, unmarked, cell_at, with_mark, map_cells}
-use Rattle.house.proofs.Tests.{is, same, and_yes, and_no}
+use Rattle.std.proofs.lemmas.Bool.{cases_Bool}
+use Rattle.std.proofs.Math.Bool.{and-true, and-false}
+use Rattle.house.proofs.Tests.{same}
 use Rattle.house.proofs.Lists.{length_map_from, get_or_map_from}
 
 -- the two marks are the same; at two marks by name it computes
@@ -59,12 +61,12 @@ added Signalled Signalled c e = added_here 8 c (omega arith) e
 
 had : (n m : Mark) (c : ℕ) → has m c ≡ true → has n c ≡ (alike n m || has n c)
 unfolding has
-had n m c y = elim (is (alike n m)) [ inl e ↦ rw e (rw (eqb-true (weight n) (weight m) e) y) | inr e ↦ rw e ]
+had n m c y = elim (cases_Bool (alike n m)) [ inl e ↦ rw e (rw (eqb-true (weight n) (weight m) e) y) | inr e ↦ rw e ]
 
 -- what a cell has once it is marked
 pub has_marked : (n m : Mark) (c : ℕ) → has n (marked m c) ≡ (alike n m || has n c)
 unfolding has marked
-has_marked n m c = elim (is (has m c)) [ inl e ↦ rw e (had n m c e) | inr e ↦ rw e (added n m c (eqb-false _ 1 e)) ]
+has_marked n m c = elim (cases_Bool (has m c)) [ inl e ↦ rw e (had n m c e) | inr e ↦ rw e (added n m c (eqb-false _ 1 e)) ]
 
 pub weight_some : (m : Mark) → 0 < weight m
 weight_some Read = omega arith
@@ -98,12 +100,12 @@ module _ (n m : Mark) (c : ℕ) where
   -- and once it is unmarked
   pub has_unmarked : has n (unmarked m c) ≡ (not (alike n m) && has n c)
   unfolding has unmarked
-  has_unmarked = elim (is (has m c)) [
-    | inl y ↦ rw y (elim (is (alike n m)) [
+  has_unmarked = elim (cases_Bool (has m c)) [
+    | inl y ↦ rw y (elim (cases_Bool (alike n m)) [
       | inl e ↦ rw e (rw (eqb-true (weight n) (weight m) e) (ne_eqb _ 1 (taken y)))
       | inr e ↦ rw e (sym (rw (e, again y) at (added n m (c - weight m) (taken y))))
     ])
-    | inr y ↦ rw y (elim (is (alike n m)) [ inl e ↦ rw e (rw (eqb-true (weight n) (weight m) e) y) | inr e ↦ rw e ])
+    | inr y ↦ rw y (elim (cases_Bool (alike n m)) [ inl e ↦ rw e (rw (eqb-true (weight n) (weight m) e) y) | inr e ↦ rw e ])
   ]
 
 -- Where the cells lie: the cell of place p and item i is number p * 64 + i, and no other
@@ -154,6 +156,6 @@ cell_elsewhere m cells p i q j a b n = get_or-set_other cells (p * 64 + i) (q * 
 pub has_with_mark : (cells : List ℕ) → length cells ≡ 2048 → (n m : Mark) (p i j : ℕ) → p < 32 → i < 64 → j < 64 → has n (cell_at (with_mark m cells p i) p j) ≡ (alike n m && eqb j i || has n (cell_at cells p j))
 has_with_mark cells long n m p i j b a c =
     elim (same j i) [
-      | inl e ↦ rw (e, cell_here cells long m p i b a, has_marked n m (cell_at cells p i), eq-eqb i i refl, and_yes (alike n m))
-      | inr d ↦ rw (cell_elsewhere m cells p i p j a c (λ e. d), ne_eqb j i d, and_no (alike n m))
+      | inl e ↦ rw (e, cell_here cells long m p i b a, has_marked n m (cell_at cells p i), eq-eqb i i refl, and-true (alike n m))
+      | inr d ↦ rw (cell_elsewhere m cells p i p j a c (λ e. d), ne_eqb j i d, and-false (alike n m))
     ]

@@ -1,6 +1,7 @@
 -- What the number of a request says: which check is the first that applies, and of one that no refusal meets where its
 -- transaction stands.
 -- Assumes nothing.
+use Rattle.std.proofs.Math.Bool.{and-false}
 use Prim.Native.Nat.{ℕ, ◌<◌}
 use native.Mathlib.Omega.{arith}
 use mathlib.Core.Path.{◌≡◌, refl, sym, ap, ◌∙◌}
@@ -9,18 +10,28 @@ use mathlib.Core.Bool.{Bool, true, false, ◌&&◌, ◌||◌, not, cond}
 use mathlib.Core.List.{List, [], ◌∷◌, ◌++◌, map}
 use lib.Dec.{eqb, leb}
 use borrow.Author.Tests.{eq-eqb, ne_eqb, eqb-true, eqb-false, ltb-false, leb-false, not-true}
-use Rattle.house.specs.declared.Found.{Found}
-use Rattle.house.specs.declared.Found.TheVariants.{At, Nobody}
+use Rattle.std.specs.Prelude.{Option, Some, None, is_none}
 use Rattle.house.specs.declared.House.{House}
 use Rattle.house.specs.declared.Request.{Request}
 use Rattle.house.specs.Search.{nobody, any_of, distinct}
-use Rattle.house.specs.Checks.{foremost, some_applies, test_of, before}
+use Rattle.house.specs.Checks.{foremost, first_of, by_number, number_or_0, some_applies, test_of, before}
 use Rattle.house.specs.House.{dominates, item_at}
 use Rattle.house.specs.Rules.{read, write, ◌does◌, asker, no_level, uses_item, unused_set, unknown, no_item, forbidden, blank_sheet, stopped, untimely, worn_out, crowded, ticketless, delayed, refusals, checks, verdict}
-use Rattle.house.proofs.Tests.{is, clash, and_true, and_right_false, and_no, or_false, or_left, or_right, or_elim, not_is, not_of}
+use Rattle.std.proofs.lemmas.Bool.{cases_Bool, and_parts, or_parts, or_left, or_right, not-false, not_from_false}
+use Rattle.house.proofs.Tests.{clash, and_right_false, or_elim}
 use Rattle.house.proofs.Operations.{OperationOf, operation_of}
 
 -- LISTS OF CHECKS
+
+-- names give the numbers that they have: the first that applies, and whether one does
+module _ {A : Type 0} (number : A → ℕ) where
+  pub first_numbered : (l : List (A × Bool)) → number_or_0 number (first_of l) ≡ foremost (by_number number l)
+  first_numbered [] = refl
+  first_numbered (x ∷ xs) = elim (cases_Bool x.1) [ inl y ↦ rw y | inr y ↦ rw y (first_numbered xs) ]
+
+  pub none_numbered : ((a : A) → number a ≢ 0) → (l : List (A × Bool)) → is_none (first_of l) ≡ eqb (foremost (by_number number l)) 0
+  none_numbered some [] = refl
+  none_numbered some (x ∷ xs) = elim (cases_Bool x.1) [ inl y ↦ rw (y, ne_eqb (number x.0) 0 (some x.0)) | inr y ↦ rw y (none_numbered some xs) ]
 
 -- none has the number 0
 abbrev pub numbered : List (ℕ × Bool) → Bool
@@ -31,22 +42,22 @@ numbered (x ∷ xs) = not (eqb x.0 0) && numbered xs
 pub none_applies : (l : List (ℕ × Bool)) → numbered l ≡ true → foremost l ≡ 0 → some_applies l ≡ false
 none_applies [] n e = refl
 none_applies (x ∷ xs) n e =
-    let k = and_true (not (eqb x.0 0)) (numbered xs) n in
-    elim (is x.1) [
+    let k = and_parts (not (eqb x.0 0)) (numbered xs) n in
+    elim (cases_Bool x.1) [
       | inl b ↦ clash k.0 (ap not (eq-eqb x.0 0 (rw b at e)))
       | inr b ↦ rw b (none_applies xs k.1 (rw b at e))
     ]
 
 pub none_given : (l : List (ℕ × Bool)) → some_applies l ≡ false → foremost l ≡ 0
 none_given [] e = refl
-none_given (x ∷ xs) e = let k = or_false x.1 (some_applies xs) e in rw k.0 (none_given xs k.1)
+none_given (x ∷ xs) e = let k = or_parts x.1 (some_applies xs) e in rw k.0 (none_given xs k.1)
 
 -- and no test of the list holds, whichever number it has
 pub test_fails : (l : List (ℕ × Bool)) → some_applies l ≡ false → (n : ℕ) → test_of n l ≡ false
 test_fails [] e n = refl
 test_fails (x ∷ xs) e n =
-    let k = or_false x.1 (some_applies xs) e in
-    elim (is (eqb x.0 n)) [ inl y ↦ rw y k.0 | inr y ↦ rw y (test_fails xs k.1 n) ]
+    let k = or_parts x.1 (some_applies xs) e in
+    elim (cases_Bool (eqb x.0 n)) [ inl y ↦ rw y k.0 | inr y ↦ rw y (test_fails xs k.1 n) ]
 
 -- the number n is there; two checks have one number
 abbrev has : ℕ → List (ℕ × Bool) → Bool
@@ -58,20 +69,20 @@ same_number x y = eqb y.0 x.0
 not_given : (l : List (ℕ × Bool)) (n : ℕ) → n ≢ 0 → has n l ≡ false → eqb (foremost l) n ≡ false
 not_given [] n z e = ne_eqb 0 n (λ q. z (sym q))
 not_given (x ∷ xs) n z e =
-    let k = or_false (eqb x.0 n) (has n xs) e in
-    elim (is x.1) [ inl y ↦ rw y k.0 | inr y ↦ rw y (not_given xs n z k.1) ]
+    let k = or_parts (eqb x.0 n) (has n xs) e in
+    elim (cases_Bool x.1) [ inl y ↦ rw y k.0 | inr y ↦ rw y (not_given xs n z k.1) ]
 
 -- n is given exactly when its test holds and none before it does
 pub first_given : (l : List (ℕ × Bool)) → distinct same_number l ≡ true → (n : ℕ) → n ≢ 0 → eqb (foremost l) n ≡ (test_of n l && not (some_applies (before n l)))
 first_given [] d n z = ne_eqb 0 n (λ q. z (sym q))
 first_given (x ∷ xs) d n z =
-    let k = and_true (not (has x.0 xs)) (distinct same_number xs) d in
-    elim (is (eqb x.0 n)) [
-      | inl e ↦ elim (is x.1) [
+    let k = and_parts (not (has x.0 xs)) (distinct same_number xs) d in
+    elim (cases_Bool (eqb x.0 n)) [
+      | inl e ↦ elim (cases_Bool x.1) [
         | inl y ↦ rw (e, y) e
         | inr y ↦ rw (e, y) (not_given xs n z (ap (λ m. has m xs) (sym (eqb-true x.0 n e)) ∙ not-true _ k.0))
       ]
-      | inr e ↦ elim (is x.1) [ inl y ↦ rw (e, y) (e ∙ sym (and_no (test_of n xs))) | inr y ↦ rw (e, y) (first_given xs k.1 n z) ]
+      | inr e ↦ elim (cases_Bool x.1) [ inl y ↦ rw (e, y) (e ∙ sym (and-false (test_of n xs))) | inr y ↦ rw (e, y) (first_given xs k.1 n z) ]
     ]
 
 -- the first check of a list that applies has one of its numbers
@@ -89,14 +100,14 @@ foremost_stands (x ∷ xs) = either x.1 x.0 (foremost xs) (map (λ y. y.0) xs) (
 pub foremost_append : (l r : List (ℕ × Bool)) → numbered l ≡ true → foremost (l ++ r) ≡ cond (eqb (foremost l) 0) (foremost r) (foremost l)
 foremost_append [] r m = refl
 foremost_append (x ∷ xs) r m =
-    let k = and_true (not (eqb x.0 0)) (numbered xs) m in
-    elim (is x.1) [ inl y ↦ rw (y, not-true (eqb x.0 0) k.0) | inr y ↦ rw y (foremost_append xs r k.1) ]
+    let k = and_parts (not (eqb x.0 0)) (numbered xs) m in
+    elim (cases_Bool x.1) [ inl y ↦ rw (y, not-true (eqb x.0 0) k.0) | inr y ↦ rw y (foremost_append xs r k.1) ]
 
 -- a number that stands in one list of two, first the other: only then
 pub given_last : (l : List (ℕ × Bool)) (n : ℕ) (b : Bool) → n ≢ 0 → numbered l ≡ true → has n l ≡ false → eqb (foremost (l ++ ((n, b) ∷ []))) n ≡ (eqb (foremost l) 0 && b)
 given_last l n b z m d =
     rw (foremost_append l ((n, b) ∷ []) m)
-    (elim (is (eqb (foremost l) 0)) [ inl y ↦ rw y (only b) | inr y ↦ rw y (not_given l n z d) ])
+    (elim (cases_Bool (eqb (foremost l) 0)) [ inl y ↦ rw y (only b) | inr y ↦ rw y (not_given l n z d) ])
   where
     only : (b : Bool) → eqb (cond b n 0) n ≡ b
     only true = eq-eqb n n refl
@@ -145,7 +156,7 @@ clear h q e =
 
 -- an item that is there is below the count, and one of the 64 rows
 pub there : (count i : ℕ) → (leb count i || leb 64 i) ≡ false → (i < count) × (i < 64)
-there count i e = let k = or_false (leb count i) (leb 64 i) e in (leb-false count i k.0, leb-false 64 i k.1)
+there count i e = let k = or_parts (leb count i) (leb 64 i) e in (leb-false count i k.0, leb-false 64 i k.1)
 
 pub item_there : (h : House) (q : Request) → uses_item q ≡ true → no_item h q ≡ false → (q.item < h.count) × (q.item < 64)
 unfolding no_item
@@ -155,9 +166,9 @@ item_there h q u e = there h.count q.item (rw u at e)
 pub allowed_below : (h : House) (q : Request) → dominates h.order q.level q.level ≡ true → uses_item q ≡ true → forbidden h q ≡ false → dominates h.order q.level (item_at h.items q.item).level ≡ true
 unfolding forbidden
 allowed_below h q itself u e =
-    elim (is (q does read)) [
-      | inl r ↦ not_is _ (rw r at e)
-      | inr n ↦ let w : q does write ≡ true = rw n at u in rw (eqb-true (item_at h.items q.item).level q.level (not_is _ (rw (n, w) at e))) itself
+    elim (cases_Bool (q does read)) [
+      | inl r ↦ not-false _ (rw r at e)
+      | inr n ↦ let w : q does write ≡ true = rw n at u in rw (eqb-true (item_at h.items q.item).level q.level (not-false _ (rw (n, w) at e))) itself
     ]
 
 -- no refusal has the number of the delay
@@ -175,16 +186,16 @@ pub passes : (h : House) (q : Request) → verdict h q ≡ 0 → (foremost (refu
 passes h q e = neither (foremost (refusals h q)) (delayed h q) (sym (verdict_is h q) ∙ e)
   where
     neither : (n : ℕ) (d : Bool) → cond (eqb n 0) (cond d 1 0) n ≡ 0 → (n ≡ 0) × (d ≡ false)
-    neither n true z = elim (is (eqb n 0)) [ inl y ↦ absurd (omega (arith, rw y at z)) | inr y ↦ absurd (eqb-false n 0 y (rw y at z)) ]
-    neither n false z = elim (is (eqb n 0)) [ inl y ↦ (eqb-true n 0 y, refl) | inr y ↦ absurd (eqb-false n 0 y (rw y at z)) ]
+    neither n true z = elim (cases_Bool (eqb n 0)) [ inl y ↦ absurd (omega (arith, rw y at z)) | inr y ↦ absurd (eqb-false n 0 y (rw y at z)) ]
+    neither n false z = elim (cases_Bool (eqb n 0)) [ inl y ↦ (eqb-true n 0 y, refl) | inr y ↦ absurd (eqb-false n 0 y (rw y at z)) ]
 
 -- a search that found somebody found them at a place
-pub somebody : (who : Found) → nobody who ≡ false → (p : ℕ) × (who ≡ At p)
-somebody (At p) e = (p, refl)
-somebody Nobody e = clash refl e
+pub somebody : (who : Option ℕ) → nobody who ≡ false → (p : ℕ) × (who ≡ Some p)
+somebody (Some p) e = (p, refl)
+somebody None e = clash refl e
 
 -- "Each request for a transaction finds its place or is answered 6": one that no refusal meets has found it
-pub asker_known : (h : House) (q : Request) → q.operation ≢ 0 → foremost (refusals h q) ≡ 0 → (me : ℕ) × (asker h q ≡ At me)
+pub asker_known : (h : House) (q : Request) → q.operation ≢ 0 → foremost (refusals h q) ≡ 0 → (me : ℕ) × (asker h q ≡ Some me)
 unfolding unknown
 asker_known h q o e =
-    somebody (asker h q) (and_right_false (not (eqb q.operation 0)) _ (not_of _ (ne_eqb _ 0 o)) (clear h q e).known)
+    somebody (asker h q) (and_right_false (not (eqb q.operation 0)) _ (not_from_false _ (ne_eqb _ 0 o)) (clear h q e).known)

@@ -19,7 +19,7 @@ use Rattle.house.specs.declared.Standing.TheVariants.{Active, Certified}
 use Rattle.house.specs.Cell.{cell_at, map_cells, holds}
 use Rattle.house.specs.House.{fixed, Sizes, blank, vacant, item_at, pending_at, place_at, next_at}
 use Rattle.house.specs.Rules.{ticket_after, begun, read_by, certify, commit, written_by, signals_at, signalled_cell, signalled, converted_cell, certified_by, cleared_cell, dropped_pending, left, committed_item, committed_by, aborted_by}
-use Rattle.house.proofs.Tests.{is}
+use Rattle.std.proofs.lemmas.Bool.{cases_Bool}
 use Rattle.house.proofs.Lists.{length_map_from, get_or_map_from, map_from_kept, map_map_from_same}
 use Rattle.house.proofs.Cells.{cell_elsewhere, cell_mapped, length_with_mark, length_map_cells}
 
@@ -163,7 +163,7 @@ module _ (h : House) where
 
   committed_level : (me i : ℕ) (x : Item) → (committed_item h.cells h.pending me i x).level ≡ x.level
   unfolding committed_item
-  committed_level me i x = elim (is (holds h.cells Certify me i)) [ inl e ↦ rw e | inr e ↦ rw e ]
+  committed_level me i x = elim (cases_Bool (holds h.cells Certify me i)) [ inl e ↦ rw e | inr e ↦ rw e ]
 
   pub committed_fixed : (me : ℕ) → fixed (committed_by h me) ≡ fixed h
   unfolding fixed left

@@ -1,5 +1,6 @@
 -- Laws of the order of the levels, and that the tests of an opening find out whether a table is a partial order.
 -- Assumes nothing.
+use Rattle.std.proofs.Math.Bool.{and-false}
 use Prim.Native.Nat.{ℕ, ◌+◌, ◌*◌, ◌/◌, ◌%◌, ◌≤◌, ◌<◌}
 use native.Mathlib.Omega.{arith}
 use mathlib.Core.Path.{◌≡◌, refl}
@@ -12,23 +13,24 @@ use borrow.Author.Tests.{eq-eqb, ne_eqb, eqb-true, eqb-false, ltb-true, ltb-fals
 use Rattle.house.specs.Search.{scan}
 use Rattle.house.specs.House.{dominates, above}
 use Rattle.house.specs.Order.{PartialOrder, old_chain, large, loose, tied, broken, wrong_at, disordered}
-use Rattle.house.proofs.Tests.{is, clash, refuted, and_true, and_intro, and_no, and_right_false, or_false, not_is, not_of}
+use Rattle.std.proofs.lemmas.Bool.{cases_Bool, false_from_ne_true, and_parts, and_from, or_parts, not-false, not_from_false}
+use Rattle.house.proofs.Tests.{clash, and_right_false}
 use Rattle.house.proofs.Searches.{any_none, any_some}
 
 pub above_itself : (order : List ℕ) (a : ℕ) → above order a a ≡ false
 unfolding above
-above_itself order a = rw (eq-eqb a a refl) (and_no (dominates order a a))
+above_itself order a = rw (eq-eqb a a refl) (and-false (dominates order a a))
 
 -- one that dominates another level is above it
 pub above_intro : (order : List ℕ) (a b : ℕ) → dominates order a b ≡ true → a ≢ b → above order a b ≡ true
 unfolding above
-above_intro order a b d n = and_intro _ _ d (not_of _ (ne_eqb a b n))
+above_intro order a b d n = and_from _ _ d (not_from_false _ (ne_eqb a b n))
 
 -- what is dominated is a level
 pub dominated_low : (order : List ℕ) → length order ≡ 16 → (a b : ℕ) → dominates order a b ≡ true → b < 4
 unfolding dominates
 dominated_low order z a b e =
-    elim (is (ltb b 4)) [
+    elim (cases_Bool (ltb b 4)) [
       | inl y ↦ ltb-true b 4 y
       | inr y ↦
           let n : 4 ≤ b = ltb-false b 4 y in
@@ -55,8 +57,8 @@ module _ (order : List ℕ) (e : disordered order ≡ false) where
   -- the first three tests look at two levels
   two : (a b : ℕ) → a < 4 → b < 4 → ((large order a b ≡ false) × (loose order a ≡ false)) × (tied order a b ≡ false)
   two a b x y =
-      let m = or_false _ (tied order a b) (or_false _ (broken order a b 0) (right a b 0 x y (omega arith))).0 in
-      (or_false (large order a b) (loose order a) m.0, m.1)
+      let m = or_parts _ (tied order a b) (or_parts _ (broken order a b 0) (right a b 0 x y (omega arith))).0 in
+      (or_parts (large order a b) (loose order a) m.0, m.1)
 
   small : (n : ℕ) → n < 16 → get_or order n 0 ≤ 1
   unfolding large
@@ -69,9 +71,9 @@ module _ (order : List ℕ) (e : disordered order ≡ false) where
   ordered =
       record {
         bits = small;
-        reflexive = λ a x. not_is _ (two a 0 x (omega arith)).0.1;
-        antisymmetric = λ a b x y d f. eqb-true a b (not_is _ (and_right_false _ _ (and_intro _ _ d f) (two a b x y).1));
-        transitive = λ a b c x y z d f. not_is _ (and_right_false _ _ (and_intro _ _ d f) (or_false (large order a b || loose order a || tied order a b) (broken order a b c) (right a b c x y z)).1);
+        reflexive = λ a x. not-false _ (two a 0 x (omega arith)).0.1;
+        antisymmetric = λ a b x y d f. eqb-true a b (not-false _ (and_right_false _ _ (and_from _ _ d f) (two a b x y).1));
+        transitive = λ a b c x y z d f. not-false _ (and_right_false _ _ (and_from _ _ d f) (or_parts (large order a b || loose order a || tied order a b) (broken order a b c) (right a b c x y z)).1);
       }
 
 -- and a partial order passes them
@@ -88,25 +90,25 @@ module _ (order : List ℕ) (P : PartialOrder order) where
   not_tied : (a b : ℕ) → a < 4 → b < 4 → tied order a b ≡ false
   unfolding tied
   not_tied a b x y =
-      refuted _
+      false_from_ne_true _
       (λ e.
-      let k = and_true (dominates order a b && dominates order b a) _ e in
-      let d = and_true (dominates order a b) _ k.0 in
+      let k = and_parts (dominates order a b && dominates order b a) _ e in
+      let d = and_parts (dominates order a b) _ k.0 in
       eqb-false a b (not-true _ k.1) (P.antisymmetric a b x y d.0 d.1))
 
   not_broken : (a b c : ℕ) → a < 4 → b < 4 → c < 4 → broken order a b c ≡ false
   unfolding broken
   not_broken a b c x y z =
-      refuted _
+      false_from_ne_true _
       (λ e.
-      let k = and_true (dominates order a b && dominates order b c) _ e in
-      let d = and_true (dominates order a b) _ k.0 in
+      let k = and_parts (dominates order a b && dominates order b c) _ e in
+      let d = and_parts (dominates order a b) _ k.0 in
       clash (P.transitive a b c x y z d.0 d.1) (not-true _ k.1))
 
   pub undisordered : disordered order ≡ false
   unfolding disordered wrong_at
   undisordered =
-      refuted _
+      false_from_ne_true _
       (λ e.
       let r = any_some (wrong_at order) 0 64 e in
       let n = r.0 in

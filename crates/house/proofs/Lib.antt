@@ -2,6 +2,7 @@ pub mod Unfolding
 pub mod Operations
 pub mod Tests
 pub mod Searches
+pub mod Scans
 pub mod Levels
 pub mod Lists
 pub mod Branches
@@ -13,3 +14,4 @@ pub mod Checks
 pub mod Steps
 pub mod Openings
 pub mod Runs
+pub mod Settled

@@ -6,7 +6,7 @@ use mathlib.Core.Path.{◌≡◌, ◌∙◌}
 use mathlib.Core.Logic.{◌≢◌}
 use borrow.Author.Tests.{ne_eqb}
 use Rattle.house.specs.declared.Answer.TheVariants.{Refused}
-use Rattle.house.specs.declared.Found.TheVariants.{At, Nobody}
+use Rattle.std.specs.Prelude.{Some, None}
 use Rattle.house.specs.declared.House.{House}
 use Rattle.house.specs.declared.Request.{Request}
 use Rattle.house.specs.Checks.{foremost}
@@ -26,7 +26,7 @@ pub refused_is : (h : House) (q : Request) → foremost (refusals h q) ≢ 0 →
 unfolding unserved
 refused_is h q n = unserved_is h q _ (first_refused h q n) n ∙ rw (refusal_not_delay h q)
 
-pub waits_is : (h : House) (q : Request) (p : ℕ) → foremost (refusals h q) ≡ 0 → holder h q ≡ At p → stepped h q ≡ outcome h q (named h p)
+pub waits_is : (h : House) (q : Request) (p : ℕ) → foremost (refusals h q) ≡ 0 → holder h q ≡ Some p → stepped h q ≡ outcome h q (named h p)
 unfolding unserved delayed
 waits_is h q p z e = unserved_is h q 1 (verdict_is h q ∙ rw (z, e)) (λ n. omega arith) ∙ rw e
 
@@ -34,6 +34,6 @@ pub done_is : (h : House) (q : Request) → verdict h q ≡ 0 → stepped h q �
 unfolding stepped
 done_is h q e = rw e
 
-pub free_is : (h : House) (q : Request) → foremost (refusals h q) ≡ 0 → holder h q ≡ Nobody → stepped h q ≡ performed h q
+pub free_is : (h : House) (q : Request) → foremost (refusals h q) ≡ 0 → holder h q ≡ None → stepped h q ≡ performed h q
 unfolding delayed
 free_is h q z e = done_is h q (verdict_is h q ∙ rw (z, e))

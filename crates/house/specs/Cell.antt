@@ -1,8 +1,7 @@
 -- The lock cells. "There are 2,048 lock cells, one for each item and place: read, write, certify, signalled."
 -- A cell is one byte, the sum of the weights of its marks. The cell of place p and item i is number p * 64 + i.
 -- Assumes nothing.
-use Rattle.std.specs.Prelude.{ℕ, ◌+◌, ◌-◌, ◌*◌, ◌/◌, ◌%◌, Bool, cond, not, ◌&&◌, List, get_or, set, eqb}
-use Rattle.house.specs.declared.Found.{Found}
+use Rattle.std.specs.Prelude.{ℕ, ◌+◌, ◌-◌, ◌*◌, ◌/◌, ◌%◌, Bool, cond, not, ◌&&◌, List, get_or, set, eqb, Option}
 use Rattle.house.specs.declared.Mark.{Mark}
 use Rattle.house.specs.declared.Mark.TheVariants.{Read, Write, Certify, Signalled}
 use Rattle.house.specs.Search.{any, find, count, map_from}
@@ -47,7 +46,7 @@ another_holds cells m me i p = not (eqb p me) && holds cells m p i
 unfoldable pub is_signalled : List ℕ → ℕ → Bool
 is_signalled cells me = any (holds cells Signalled me) 0 64
 
-unfoldable pub first_signalled : List ℕ → ℕ → Found
+unfoldable pub first_signalled : List ℕ → ℕ → Option ℕ
 first_signalled cells me = find (holds cells Signalled me) 0 64
 
 unfoldable pub count_signalled : List ℕ → ℕ → ℕ

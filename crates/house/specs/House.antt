@@ -1,7 +1,6 @@
 -- The parts of a house. "Levels 0 to 3", "1 to 64 items, numbered from 0", "eight places per level, 32 in all".
 -- Assumes nothing.
-use Rattle.std.specs.Prelude.{ℕ, ◌+◌, ◌*◌, ◌/◌, Bool, true, false, ◌&&◌, not, List, map, ◌≡◌, length, get_or, set, eqb}
-use Rattle.house.specs.declared.Found.{Found}
+use Rattle.std.specs.Prelude.{ℕ, ◌+◌, ◌*◌, ◌/◌, Bool, true, false, ◌&&◌, not, List, map, ◌≡◌, length, get_or, set, eqb, Option}
 use Rattle.house.specs.declared.House.{House}
 use Rattle.house.specs.declared.Item.{Item}
 use Rattle.house.specs.declared.Place.{Place}
@@ -99,9 +98,9 @@ has_ticket places t p = not (free_at places p) && eqb (place_at places p).ticket
 
 -- "To look a ticket up, the search goes over the eight places of one level and stops at the place found." It begins "at the place
 -- numbered by the ticket modulo 8", and goes "round" (CR 4)
-unfoldable pub seek : List Place → ℕ → ℕ → Found
+unfoldable pub seek : List Place → ℕ → ℕ → Option ℕ
 seek places l t = find_round (has_ticket places t) (l * 8) 8 t
 
 -- "the lowest free place of the level"
-unfoldable pub vacancy : List Place → ℕ → Found
+unfoldable pub vacancy : List Place → ℕ → Option ℕ
 vacancy places l = find (free_at places) (l * 8) 8

@@ -2,22 +2,23 @@
 -- In document 01's words and order, and in those of the change requests (CR 1 ..) where they amend it. Every definition is
 -- total: it speaks of every house value and every request.
 -- Assumes nothing.
-use Rattle.std.specs.Prelude.{ℕ, ◌+◌, Bool, false, ◌&&◌, ◌||◌, not, cond, List, [], ◌∷◌, ◌++◌, set, eqb, ltb, leb}
+use Rattle.std.specs.Prelude.{ℕ, ◌+◌, ◌<◌, ◌≡◌, Bool, false, ◌&&◌, ◌||◌, not, cond, List, [], ◌∷◌, ◌++◌, set, eqb, ltb, leb, Result, MatchResult, Option, None}
 use Rattle.house.specs.declared.Answer.{Answer}
 use Rattle.house.specs.declared.Answer.TheVariants.{Refused, Delayed, Done, Ticket, Pair, Signals}
-use Rattle.house.specs.declared.Found.{Found}
-use Rattle.house.specs.declared.Found.TheVariants.{Nobody}
 use Rattle.house.specs.declared.House.{House}
 use Rattle.house.specs.declared.Item.{Item}
 use Rattle.house.specs.declared.Mark.TheVariants.{Read, Write, Certify, Signalled}
+use Rattle.house.specs.declared.Operation.{Operation}
 use Rattle.house.specs.declared.Outcome.{Outcome}
+use Rattle.house.specs.declared.Refusal.{Refusal}
+use Rattle.house.specs.declared.Refusal.TheVariants.{NoOperation, NoLevel, UnusedSet, Unknown, NoItem, Forbidden, BlankSheet, Stopped, Untimely, WornOut, Crowded, Ticketless}
 use Rattle.house.specs.declared.Reply.{Reply}
 use Rattle.house.specs.declared.Request.{Request}
 use Rattle.house.specs.declared.Rule.{Rule}
 use Rattle.house.specs.declared.Rule.TheVariants.{A, B}
 use Rattle.house.specs.declared.Standing.TheVariants.{Active, Certified}
 use Rattle.house.specs.Search.{find, if_found, nobody, find_first, map_from}
-use Rattle.house.specs.Checks.{foremost}
+use Rattle.house.specs.Checks.{foremost, by_number}
 use Rattle.house.specs.Cell.{has, marked, unmarked, with_mark, map_cells, holds, another_holds, is_signalled, first_signalled, count_signalled}
 use Rattle.house.specs.House.{dominates, above, level_of, vacant, item_at, pending_at, place_at, next_at, with_items, with_pending, with_place, with_next, with_cells, is_active, is_certified, seek, vacancy}
 
@@ -44,14 +45,41 @@ abort = 5
 abbrev pub ask : ℕ
 ask = 6
 
+abbrev pub code : Operation → ℕ
+code Operation.Begin = begin
+code Operation.Read = read
+code Operation.Write = write
+code Operation.Certify = certify
+code Operation.Commit = commit
+code Operation.Abort = abort
+code Operation.Ask = ask
+
+-- a byte is taken for the operation that it names, or names none
+abbrev pub Decodes : ℕ → Result Operation Refusal → Type 0
+Decodes n r = MatchResult r (λ operation. code operation ≡ n) (λ refusal. (refusal ≡ NoOperation) × (ask < n))
+
 infix 60 ◌does◌
 abbrev pub ◌does◌ : Request → ℕ → Bool
 q does n = eqb q.operation n
 
--- THE CHECKS. One named test for each row of the table of numbers
+-- THE CHECKS. One name and one named test for each row of the table of numbers
+
+abbrev pub number : Refusal → ℕ
+number Stopped = 2
+number NoOperation = 3
+number NoLevel = 4
+number UnusedSet = 5
+number Unknown = 6
+number NoItem = 7
+number Forbidden = 8
+number Untimely = 9
+number WornOut = 10
+number Crowded = 11
+number Ticketless = 12
+number BlankSheet = 15
 
 -- the place of the transaction that asks
-abbrev pub asker : House → Request → Found
+abbrev pub asker : House → Request → Option ℕ
 asker h q = seek h.places q.level q.ticket
 
 -- 3: "operation above 6"
@@ -137,36 +165,39 @@ unfoldable pub wants : List ℕ → Request → ℕ → ℕ → Bool
 wants cells q me i = cond (uses_item q) (eqb i q.item) (q does certify && holds cells Write me i)
 
 -- "The conflict test now gives the holder. .. With several, take the lowest item, then the lowest place." (CR 5)
-unfoldable pub holder_on : List ℕ → Request → ℕ → ℕ → Found
-holder_on cells q me i = cond (wants cells q me i) (find (hinders cells q.operation me i) 0 32) Nobody
+unfoldable pub holder_on : List ℕ → Request → ℕ → ℕ → Option ℕ
+holder_on cells q me i = cond (wants cells q me i) (find (hinders cells q.operation me i) 0 32) None
 
-unfoldable pub conflict : List ℕ → Request → ℕ → Found
+unfoldable pub conflict : List ℕ → Request → ℕ → Option ℕ
 conflict cells q me = find_first (holder_on cells q me) 0 64
 
 -- the place of the holder of what is asked for
-abbrev pub holder : House → Request → Found
-holder h q = if_found (asker h q) (conflict h.cells q) Nobody
+abbrev pub holder : House → Request → Option ℕ
+holder h q = if_found (asker h q) (conflict h.cells q) None
 
 -- 1: "delayed: a lock conflict; ask again later"
 unfoldable pub delayed : House → Request → Bool
 delayed h q = not (nobody (holder h q))
 
 -- "Order of checks: 3, 4, 5, 6, 7, 8, 2, 9, 10, 11, 12, 1", with 15 "after 8 and before 2" (CR 1). First the refusals
-unfoldable pub refusals : House → Request → List (ℕ × Bool)
-refusals h q =
-    (3, no_operation q)
-    ∷ (4, no_level q)
-    ∷ (5, unused_set q)
-    ∷ (6, unknown h q)
-    ∷ (7, no_item h q)
-    ∷ (8, forbidden h q)
-    ∷ (15, blank_sheet q)
-    ∷ (2, stopped h q)
-    ∷ (9, untimely h q)
-    ∷ (10, worn_out h q)
-    ∷ (11, crowded h q)
-    ∷ (12, ticketless h q)
+abbrev pub reasons : House → Request → List (Refusal × Bool)
+reasons h q =
+    (NoOperation, no_operation q)
+    ∷ (NoLevel, no_level q)
+    ∷ (UnusedSet, unused_set q)
+    ∷ (Unknown, unknown h q)
+    ∷ (NoItem, no_item h q)
+    ∷ (Forbidden, forbidden h q)
+    ∷ (BlankSheet, blank_sheet q)
+    ∷ (Stopped, stopped h q)
+    ∷ (Untimely, untimely h q)
+    ∷ (WornOut, worn_out h q)
+    ∷ (Crowded, crowded h q)
+    ∷ (Ticketless, ticketless h q)
     ∷ []
+
+unfoldable pub refusals : House → Request → List (ℕ × Bool)
+refusals h q = by_number number (reasons h q)
 
 -- and then the delay
 unfoldable pub checks : House → Request → List (ℕ × Bool)
@@ -315,7 +346,7 @@ named h p = Delayed (place_at h.places p).ticket (level_of p)
 
 -- the answer to a request with a number n other than 0; a delay without a holder is met by none
 unfoldable pub unserved : House → Request → ℕ → Answer
-unserved h q n = if_found (cond (eqb n 1) (holder h q) Nobody) (named h) (Refused n)
+unserved h q n = if_found (cond (eqb n 1) (holder h q) None) (named h) (Refused n)
 
 -- "Any number but 0 leaves the house as it was."
 unfoldable pub stepped : House → Request → Outcome

@@ -5,41 +5,24 @@
 
 ghost use Rattle.std.specs.Prelude.{◌≡◌, ◌||◌, ◌+◌, ◌*◌, ◌<◌, leb};
 ghost use Rattle.house.specs.Cell.{is_signalled};
-ghost use Rattle.house.specs.House.{is_active, is_certified, vacancy};
-ghost use Rattle.house.specs.Rules.{no_operation, no_level, unused_set};
+ghost use Rattle.house.specs.House.{vacancy};
+ghost use Rattle.house.specs.Rules.{code, no_level, unused_set};
 ghost use Rattle.ruling.specs.declared.Ruling.TheVariants.{Grant};
 ghost use Rattle.ruling.specs.Judged.{Judged, begin_ruled, read_ruled, write_ruled, certify_ruled, commit_ruled, known_ruled};
 
-use house::{Answer, Found, Mark, Place, Request, Standing};
+use house::{Answer, Mark, Operation, Place, Refusal, Request, Standing};
 use locks::{answer_ask, answer_read, certify_holder, read_holder, write_holder};
 use parts::{dominates, holds_any};
 use places::{lookup, lowest_free};
 use ruling::{Case, Change, Ruling, View};
 
-fn is_active(s: Standing) -> bool
-    ensures { result ≡ is_active s }
-{
-    match s {
-        Standing::Free => false,
-        Standing::Active => true,
-        Standing::Certified => false,
-    }
-}
-
-fn is_certified(s: Standing) -> bool
-    ensures { result ≡ is_certified s }
-{
-    match s {
-        Standing::Free => false,
-        Standing::Active => false,
-        Standing::Certified => true,
-    }
-}
-
-fn no_operation(q: Request) -> bool
-    ensures { result ≡ no_operation q }
-{
-    6 < q.operation
+// A case of a place that a house has, with the operation that its request names.
+#[derive(Clone, Copy)]
+struct Known {
+    operation: Operation,
+    case: Case,
+    ghost named: { code operation ≡ case.request.operation },
+    ghost there: { case.me < 32 },
 }
 
 fn no_level(q: Request) -> bool
@@ -48,12 +31,15 @@ fn no_level(q: Request) -> bool
     3 < q.level
 }
 
-fn unused_set(q: Request) -> bool
+// Without a branch, since a `match` of the operation here is mispredicted: 3 ns a request.
+fn unused_set(operation: Operation, q: Request) -> bool
+    requires { code operation ≡ q.operation }
     ensures { result ≡ unused_set q }
 {
-    (!((q.operation == 1) | (q.operation == 2)) & (q.item != 0))
-        | ((q.operation == 0) & (q.ticket != 0))
-        | ((q.operation != 2) & (q.value != 0))
+    let begins = operation == Operation::Begin;
+    let reads = operation == Operation::Read;
+    let writes = operation == Operation::Write;
+    (!(reads | writes) & (q.item != 0)) | (begins & (q.ticket != 0)) | (!writes & (q.value != 0))
 }
 
 // Made here, and not where it is returned, a grant is stored in fewer pieces: six to ten instructions less for a done request.
@@ -81,42 +67,39 @@ fn judge_begin(eight: [Place; 8], ticket: u32, level: usize) -> Ruling
     requires { level < 4 }
     ensures { result ≡ begin_ruled (vacancy eight 0) ticket level }
 {
-    let Found::At(k) = lowest_free(eight) else {
-        return Ruling::Refuse(11);
+    let Some(k) = lowest_free(eight) else {
+        return Ruling::Refuse(Refusal::Crowded);
     };
     if ticket == 0 {
-        return Ruling::Refuse(12);
+        return Ruling::Refuse(Refusal::Ticketless);
     }
     let first = level * 8;
     let me = first + k;
     grant(Answer::Ticket(ticket), Change::Begin(level, me))
 }
 
-fn judge_read(case: Case, cells: &[u8; 2048]) -> Ruling
-    requires { case.me < 32 }
-    ensures { result ≡ read_ruled case cells.now }
+fn judge_read(known: Known, cells: &[u8; 2048]) -> Ruling
+    ensures { result ≡ read_ruled known.case cells.now }
 {
+    let case = known.case;
     let q = case.request;
     let order = case.order;
     let x = case.row;
-    let seat = case.seat;
-    let standing = seat.standing;
     let reader = case.me;
     let i = q.item as usize;
     if lacks_item(case.count, i) {
-        return Ruling::Refuse(7);
+        return Ruling::Refuse(Refusal::NoItem);
     }
     if !dominates(order, q.level, x.level) {
-        return Ruling::Refuse(8);
+        return Ruling::Refuse(Refusal::Forbidden);
     }
     if is_signalled(cells, reader) {
-        return Ruling::Refuse(2);
+        return Ruling::Refuse(Refusal::Stopped);
     }
-    if is_certified(standing) {
-        return Ruling::Refuse(9);
+    if case.seat.standing == Standing::Certified {
+        return Ruling::Refuse(Refusal::Untimely);
     }
-    let holder = read_holder(cells, reader, i);
-    if let Found::At(p) = holder {
+    if let Some(p) = read_holder(cells, reader, i) {
         return Ruling::Wait(p);
     }
     grant(
@@ -125,113 +108,104 @@ fn judge_read(case: Case, cells: &[u8; 2048]) -> Ruling
     )
 }
 
-fn judge_write(case: Case, cells: &[u8; 2048]) -> Ruling
-    requires { case.me < 32 }
-    ensures { result ≡ write_ruled case cells.now }
+fn judge_write(known: Known, cells: &[u8; 2048]) -> Ruling
+    ensures { result ≡ write_ruled known.case cells.now }
 {
+    let case = known.case;
     let q = case.request;
     let x = case.row;
-    let seat = case.seat;
-    let standing = seat.standing;
     let writer = case.me;
     let i = q.item as usize;
     if lacks_item(case.count, i) {
-        return Ruling::Refuse(7);
+        return Ruling::Refuse(Refusal::NoItem);
     }
     if x.level != q.level {
-        return Ruling::Refuse(8);
+        return Ruling::Refuse(Refusal::Forbidden);
     }
     if q.value == 0 {
-        return Ruling::Refuse(15);
+        return Ruling::Refuse(Refusal::BlankSheet);
     }
     if is_signalled(cells, writer) {
-        return Ruling::Refuse(2);
+        return Ruling::Refuse(Refusal::Stopped);
     }
-    if is_certified(standing) {
-        return Ruling::Refuse(9);
+    if case.seat.standing == Standing::Certified {
+        return Ruling::Refuse(Refusal::Untimely);
     }
-    if 4294967295 <= x.version {
-        return Ruling::Refuse(10);
+    if u32::MAX <= x.version {
+        return Ruling::Refuse(Refusal::WornOut);
     }
-    let holder = write_holder(cells, writer, i);
-    if let Found::At(p) = holder {
+    if let Some(p) = write_holder(cells, writer, i) {
         return Ruling::Wait(p);
     }
     grant(Answer::Done, Change::Write(writer, i, q.value))
 }
 
-fn judge_certify(case: Case, cells: &[u8; 2048]) -> Ruling
-    requires { case.me < 32 }
-    ensures { result ≡ certify_ruled case cells.now }
+fn judge_certify(known: Known, cells: &[u8; 2048]) -> Ruling
+    ensures { result ≡ certify_ruled known.case cells.now }
 {
-    let seat = case.seat;
-    let standing = seat.standing;
+    let case = known.case;
     let certifier = case.me;
     if is_signalled(cells, certifier) {
-        return Ruling::Refuse(2);
+        return Ruling::Refuse(Refusal::Stopped);
     }
-    if is_certified(standing) {
-        return Ruling::Refuse(9);
+    if case.seat.standing == Standing::Certified {
+        return Ruling::Refuse(Refusal::Untimely);
     }
-    let holder = certify_holder(cells, certifier);
-    if let Found::At(p) = holder {
+    if let Some(p) = certify_holder(cells, certifier) {
         return Ruling::Wait(p);
     }
     grant(Answer::Done, Change::Certify(certifier))
 }
 
-fn judge_commit(case: Case, cells: &[u8; 2048]) -> Ruling
-    requires { case.me < 32 }
-    ensures { result ≡ commit_ruled case cells.now }
+fn judge_commit(known: Known, cells: &[u8; 2048]) -> Ruling
+    ensures { result ≡ commit_ruled known.case cells.now }
 {
-    let seat = case.seat;
-    let standing = seat.standing;
+    let case = known.case;
     let committer = case.me;
     if is_signalled(cells, committer) {
-        return Ruling::Refuse(2);
+        return Ruling::Refuse(Refusal::Stopped);
     }
-    if is_active(standing) {
-        return Ruling::Refuse(9);
+    if case.seat.standing == Standing::Active {
+        return Ruling::Refuse(Refusal::Untimely);
     }
-    grant(Answer::Done, Change::End(committer, true))
+    grant(Answer::Done, Change::Commit(committer))
 }
 
-// Past the checks 3, 4, 5 and 6.
-fn judge_known(case: Case, cells: &[u8; 2048]) -> Ruling
-    requires { case.me < 32 }
-    ensures { result ≡ known_ruled case cells.now }
+// Past the checks 3, 4, 5 and 6. A begin, which was told from the others before, has no case; what is said of it is what `known_ruled` says.
+fn judge_known(known: Known, cells: &[u8; 2048]) -> Ruling
+    ensures { result ≡ known_ruled known.case cells.now }
 {
-    let q = case.request;
-    let operation = q.operation;
-    match operation {
-        1 => judge_read(case, cells),
-        2 => judge_write(case, cells),
-        3 => judge_certify(case, cells),
-        4 => judge_commit(case, cells),
-        5 => grant(Answer::Done, Change::End(case.me, false)),
-        _ => grant(answer_ask(cells, case.me), Change::Nothing),
+    let me = known.case.me;
+    match known.operation {
+        Operation::Read => judge_read(known, cells),
+        Operation::Write => judge_write(known, cells),
+        Operation::Certify => judge_certify(known, cells),
+        Operation::Commit => judge_commit(known, cells),
+        Operation::Abort => grant(Answer::Done, Change::Abort(me)),
+        Operation::Begin | Operation::Ask => grant(answer_ask(cells, me), Change::Nothing),
     }
 }
 
 pub fn judge(view: View, cells: &[u8; 2048], q: Request) -> Ruling
     ensures { Judged view cells.now q result }
 {
-    if no_operation(q) {
-        return Ruling::Refuse(3);
-    }
+    let operation = match Operation::try_from(q.operation) {
+        Ok(operation) => operation,
+        Err(refusal) => return Ruling::Refuse(refusal),
+    };
     if no_level(q) {
-        return Ruling::Refuse(4);
+        return Ruling::Refuse(Refusal::NoLevel);
     }
-    if unused_set(q) {
-        return Ruling::Refuse(5);
+    if unused_set(operation, q) {
+        return Ruling::Refuse(Refusal::UnusedSet);
     }
     let level = q.level as usize;
     let eight = view.eight;
-    if q.operation == 0 {
+    if operation == Operation::Begin {
         return judge_begin(eight, view.ticket, level);
     }
-    let Found::At(k) = lookup(eight, q.ticket) else {
-        return Ruling::Refuse(6);
+    let Some(k) = lookup(eight, q.ticket) else {
+        return Ruling::Refuse(Refusal::Unknown);
     };
     let seat = eight[k];
     let order = view.order;
@@ -247,5 +221,5 @@ pub fn judge(view: View, cells: &[u8; 2048], q: Request) -> Ruling
         me,
         seat,
     };
-    judge_known(case, cells)
+    judge_known(Known { operation, case }, cells)
 }

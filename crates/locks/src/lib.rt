@@ -1,240 +1,150 @@
 // The lock cells: who stands in the way of a request, and the answers that go by them.
-// Any number names a place and an item: it is taken modulo 32 and 64, as the sweeps take it.
+// Any number names a place and an item: it is taken modulo 32 and 64, as the sweeps take it. Cells, place and item go apart through
+// here, as the public functions are given them: a struct would be made in each of these.
 // A scan that only says yes or no goes to its end: without a way out of its loop it is compiled to a few wide instructions.
 
 #![tactic(auto)]
 
-ghost use Rattle.std.specs.Prelude.{◌≡◌, true, ◌||◌, ◌*◌, ◌/◌, ◌%◌, ◌<◌};
+ghost use Rattle.std.specs.Prelude.{◌≡◌, ℕ, Bool, ◌*◌, ◌/◌, ◌%◌, ◌-◌};
 ghost use Rattle.house.specs.Search.{any, find};
-ghost use Rattle.house.specs.Cell.{holds, another_holds, first_signalled, count_signalled};
-ghost use Rattle.house.specs.Rules.{read, write, another_claims, hinders, read_answer, ask_answer};
-ghost use Rattle.house.specs.declared.Found.TheVariants.{At};
-ghost use Rattle.house.specs.declared.Mark.TheVariants.{Write, Certify};
+ghost use Rattle.house.specs.Cell.{cell_at, another_holds, first_signalled, count_signalled};
+ghost use Rattle.house.specs.Rules.{read, write, read_answer, ask_answer};
+ghost use Rattle.house.specs.declared.Mark.TheVariants.{Read};
 ghost use Rattle.ruling.specs.Judged.{lowest_holder, waits_at, certify_holder};
+ghost use Rattle.locks.specs.Others.{Tests, other};
 
-use house::{Answer, Found, Item, Mark};
-use parts::{grow, has_mark, holds_any};
+use house::{Answer, Item, Mark};
+use parts::{grow, has_mark, holds_any, is_written, own_cells};
 
-fn holds_mark(cells: &[u8; 2048], m: Mark, p: usize, i: usize) -> bool
-    requires { (p < 32) × (i < 64) }
-    ensures { result ≡ holds cells.now m p i }
+fn cell(cells: &[u8; 2048], p: usize, i: usize) -> u8
+    ensures { result ≡ cell_at cells.now (p % 32) (i % 64) }
 {
-    has_mark(m, cells[p * 64 + i])
+    cells[p % 32 * 64 + i % 64]
 }
 
-fn another_holds(cells: &[u8; 2048], m: Mark, me: usize, i: usize, p: usize) -> bool
-    requires { (p < 32) × (i < 64) }
-    ensures { result ≡ another_holds cells.now m me i p }
+// Whether one of those places has it. Tried by `fold`: its promise speaks of calls of the closure, as that of `find` does below.
+fn any_place<F: Fn(usize) -> bool>(from: usize, end: usize, has: F) -> bool
+    requires { F.IsAlwaysCallable has }
+    ensures { (test : ℕ → Bool) → Tests (F.post has) test end → result ≡ any test from (end - from) }
 {
-    (p != me) & holds_mark(cells, m, p, i)
+    let mut hit = false;
+    for p in from..end {
+        hit |= has(p);
+    }
+    hit
 }
 
-// Another than `me` holds the mark on item i. Where `me` does not hold it, nobody need be told from the others, and the plain scan
-// is half as long: such a scan and the exact one stand side by side here, and again for the two marks of a claim. Each is called
-// from one place, so that the judge stays one piece of code.
-fn other_holds(cells: &[u8; 2048], m: Mark, me: usize, i: usize) -> bool
-    requires { (me < 32) × (i < 64) }
-    ensures { result ≡ any (another_holds cells.now m me i) 0 32 }
+// The lowest that has it. Tried by `find`: its promise speaks of calls of the closure, and what `has` answers did not come out of it. Out of line, since
+// beside the scan it costs each read and write 35 instructions.
+#[inline(never)]
+fn lowest_below<F: Fn(usize) -> bool>(end: usize, has: F) -> Option<usize>
+    requires { F.IsAlwaysCallable has }
+    ensures { (test : ℕ → Bool) → Tests (F.post has) test end → result ≡ find test 0 end }
 {
-    if holds_mark(cells, m, me, i) {
-        some_other_holds(cells, m, me, i)
+    for p in 0..end {
+        if has(p) {
+            return Some(p);
+        }
+    }
+    None
+}
+
+// Another than `me` has it in its cell of item i. Where `me` has it not, nobody need be told from the others, and the plain scan is
+// half as long.
+fn other_has<F: Fn(u8) -> bool>(cells: &[u8; 2048], me: usize, i: usize, has: F) -> bool
+    requires { F.IsAlwaysCallable has }
+    ensures { (test : ℕ → Bool) → Tests (F.post has) test 256 → result ≡ any (other test cells.now (me % 32) (i % 64)) 0 32 }
+{
+    if has(cell(cells, me, i)) {
+        any_place(0, 32, |p| (p != me % 32) & has(cell(cells, p, i)))
     } else {
-        anybody_holds(cells, m, i)
+        any_place(0, 32, |p| has(cell(cells, p, i)))
     }
 }
 
-fn anybody_holds(cells: &[u8; 2048], m: Mark, i: usize) -> bool
-    requires { i < 64 }
-    ensures { result ≡ any (λ p. holds cells.now m p i) 0 32 }
+// Who that is, at the lowest place. The scan comes first: mostly it says no.
+fn lowest_other<F: Fn(u8) -> bool>(cells: &[u8; 2048], me: usize, i: usize, has: F) -> Option<usize>
+    requires { F.IsAlwaysCallable has }
+    ensures { (test : ℕ → Bool) → Tests (F.post has) test 256 → result ≡ find (other test cells.now (me % 32) (i % 64)) 0 32 }
 {
-    let mut hit = false;
-    for p in 0..32 {
-        hit = hit | holds_mark(cells, m, p, i);
+    if !other_has(cells, me, i, &has) {
+        return None;
     }
-    hit
+    lowest_below(32, |p| (p != me % 32) & has(cell(cells, p, i)))
 }
 
-fn some_other_holds(cells: &[u8; 2048], m: Mark, me: usize, i: usize) -> bool
-    requires { i < 64 }
-    ensures { result ≡ any (another_holds cells.now m me i) 0 32 }
+// Who stands in the way, at the lowest place: of a read, and below of a write and of a certify.
+pub fn read_holder(cells: &[u8; 2048], me: usize, i: usize) -> Option<usize>
+    ensures { result ≡ lowest_holder cells.now read (me % 32) (i % 64) }
 {
-    let mut hit = false;
-    for p in 0..32 {
-        hit = hit | another_holds(cells, m, me, i, p);
-    }
-    hit
+    lowest_other(cells, me, i, |c| has_mark(Mark::Certify, c))
 }
 
-// Another claims item i: it holds write or certify.
-fn other_claims(cells: &[u8; 2048], me: usize, i: usize) -> bool
-    requires { (me < 32) × (i < 64) }
-    ensures { result ≡ any (another_claims cells.now me i) 0 32 }
+pub fn write_holder(cells: &[u8; 2048], me: usize, i: usize) -> Option<usize>
+    ensures { result ≡ lowest_holder cells.now write (me % 32) (i % 64) }
 {
-    if claims(cells, me, i) {
-        some_other_claims(cells, me, i)
-    } else {
-        anybody_claims(cells, i)
-    }
+    lowest_other(cells, me, i, is_written)
 }
 
-fn claims(cells: &[u8; 2048], p: usize, i: usize) -> bool
-    requires { (p < 32) × (i < 64) }
-    ensures { result ≡ (holds cells.now Write p i || holds cells.now Certify p i) }
+fn another_reads(cells: &[u8; 2048], me: usize, i: usize, p: usize) -> bool
+    ensures { result ≡ another_holds cells.now Read (me % 32) (i % 64) (p % 32) }
 {
-    holds_mark(cells, Mark::Write, p, i) | holds_mark(cells, Mark::Certify, p, i)
-}
-
-fn anybody_claims(cells: &[u8; 2048], i: usize) -> bool
-    requires { i < 64 }
-    ensures { result ≡ any (λ p. holds cells.now Write p i || holds cells.now Certify p i) 0 32 }
-{
-    let mut hit = false;
-    for p in 0..32 {
-        hit = hit | claims(cells, p, i);
-    }
-    hit
-}
-
-fn some_other_claims(cells: &[u8; 2048], me: usize, i: usize) -> bool
-    requires { i < 64 }
-    ensures { result ≡ any (another_claims cells.now me i) 0 32 }
-{
-    let mut hit = false;
-    for p in 0..32 {
-        hit = hit | another_claims(cells, me, i, p);
-    }
-    hit
-}
-
-fn another_claims(cells: &[u8; 2048], me: usize, i: usize, p: usize) -> bool
-    requires { (p < 32) × (i < 64) }
-    ensures { result ≡ another_claims cells.now me i p }
-{
-    another_holds(cells, Mark::Write, me, i, p) | another_holds(cells, Mark::Certify, me, i, p)
+    (p % 32 != me % 32) & has_mark(Mark::Read, cell(cells, p, i))
 }
 
 // The places of a level are eight in a row.
-fn peer_holds(cells: &[u8; 2048], m: Mark, me: usize, i: usize) -> bool
-    requires { (me < 32) × (i < 64) }
-    ensures { result ≡ any (another_holds cells.now m me i) (me / 8 * 8) 8 }
-{
-    let from = me / 8 * 8;
-    let mut hit = false;
-    for p in from..from + 8 {
-        hit = hit | another_holds(cells, m, me, i, p);
-    }
-    hit
-}
-
 fn waits_at(cells: &[u8; 2048], me: usize, i: usize) -> bool
-    requires { (me < 32) × (i < 64) }
-    ensures { result ≡ waits_at cells.now me i }
+    ensures { result ≡ waits_at cells.now (me % 32) (i % 64) }
 {
-    holds_mark(cells, Mark::Write, me, i) && peer_holds(cells, Mark::Read, me, i)
+    let from = me % 32 / 8 * 8;
+    has_mark(Mark::Write, cell(cells, me, i))
+        && any_place(from, from + 8, |p| another_reads(cells, me, i, p))
 }
 
 // The lowest item at which a certify has to wait. "With nothing written it is done at once."
-fn first_awaited(cells: &[u8; 2048], me: usize) -> Found
-    requires { me < 32 }
-    ensures { result ≡ find (waits_at cells.now me) 0 64 }
+fn first_awaited(cells: &[u8; 2048], me: usize) -> Option<usize>
+    ensures { result ≡ find (waits_at cells.now (me % 32)) 0 64 }
 {
     if !holds_any(cells, Mark::Write, me) {
-        return Found::Nobody;
+        return None;
     }
-    for i in 0..64 {
-        if waits_at(cells, me, i) {
-            return Found::At(i);
-        }
-    }
-    Found::Nobody
+    lowest_below(64, |i| waits_at(cells, me, i))
 }
 
-// The lowest place that stands in the way. It is looked for where a scan has said that there is one: a done request pays nothing for it,
-// and the search needs no end.
-fn lowest_holder(cells: &[u8; 2048], operation: u8, me: usize, i: usize) -> usize
-    requires { (i < 64) × (any (hinders cells.now operation me i) 0 32 ≡ true) }
-    ensures { At result ≡ lowest_holder cells.now operation me i }
-{
-    let mut p = 0;
-    while !hinders(cells, operation, me, i, p) {
-        p += 1;
-    }
-    p
-}
-
-fn hinders(cells: &[u8; 2048], operation: u8, me: usize, i: usize, p: usize) -> bool
-    requires { (p < 32) × (i < 64) }
-    ensures { result ≡ hinders cells.now operation me i p }
-{
-    match operation {
-        1 => another_holds(cells, Mark::Certify, me, i, p),
-        2 => another_claims(cells, me, i, p),
-        _ => (p / 8 == me / 8) & another_holds(cells, Mark::Read, me, i, p),
-    }
-}
-
-// Who stands in the way, at the lowest place: of a read, and below of a write and of a certify. The scan comes first: mostly it says no.
-pub fn read_holder(cells: &[u8; 2048], me: usize, i: usize) -> Found
-    ensures { result ≡ lowest_holder cells.now read (me % 32) (i % 64) }
-{
-    let here = me % 32;
-    let at = i % 64;
-    if other_holds(cells, Mark::Certify, here, at) {
-        return Found::At(lowest_holder(cells, 1, here, at));
-    }
-    Found::Nobody
-}
-
-pub fn write_holder(cells: &[u8; 2048], me: usize, i: usize) -> Found
-    ensures { result ≡ lowest_holder cells.now write (me % 32) (i % 64) }
-{
-    let here = me % 32;
-    let at = i % 64;
-    if other_claims(cells, here, at) {
-        return Found::At(lowest_holder(cells, 2, here, at));
-    }
-    Found::Nobody
-}
-
-pub fn certify_holder(cells: &[u8; 2048], me: usize) -> Found
+pub fn certify_holder(cells: &[u8; 2048], me: usize) -> Option<usize>
     ensures { result ≡ certify_holder cells.now (me % 32) }
 {
-    let here = me % 32;
-    let awaited = first_awaited(cells, here);
-    if let Found::At(i) = awaited {
-        return Found::At(lowest_holder(cells, 3, here, i));
-    }
-    Found::Nobody
+    let i = first_awaited(cells, me)?;
+    lowest_below(
+        32,
+        |p| (p / 8 == me % 32 / 8) & another_reads(cells, me, i, p),
+    )
 }
 
 pub fn answer_read(cells: &[u8; 2048], x: Item, pending: u32, me: usize, i: usize) -> Answer
     ensures { result ≡ read_answer cells.now x pending (me % 32) (i % 64) }
 {
-    if holds_mark(cells, Mark::Write, me % 32, i % 64) {
+    if has_mark(Mark::Write, cell(cells, me, i)) {
         return Answer::Pair(pending, grow(x.version));
     }
     Answer::Pair(x.value, x.version)
 }
 
-fn first_signalled(cells: &[u8; 2048], me: usize) -> Found
-    requires { me < 32 }
-    ensures { result ≡ first_signalled cells.now me }
+fn first_signalled(cells: &[u8; 2048], me: usize) -> Option<usize>
+    ensures { result ≡ first_signalled cells.now (me % 32) }
 {
-    for i in 0..64 {
-        if holds_mark(cells, Mark::Signalled, me, i) {
-            return Found::At(i);
-        }
-    }
-    Found::Nobody
+    own_cells(cells, me)
+        .iter()
+        .position(|c| has_mark(Mark::Signalled, *c))
 }
 
+// Tried by `filter` and `count`: 380 instructions more, since that is not compiled to wide ones.
 fn count_signalled(cells: &[u8; 2048], me: usize) -> u32
-    requires { me < 32 }
-    ensures { result ≡ count_signalled cells.now me }
+    ensures { result ≡ count_signalled cells.now (me % 32) }
 {
     let mut n = 0;
-    for i in 0..64 {
-        if holds_mark(cells, Mark::Signalled, me, i) {
+    for c in own_cells(cells, me) {
+        if has_mark(Mark::Signalled, *c) {
             n += 1;
         }
     }
@@ -244,11 +154,7 @@ fn count_signalled(cells: &[u8; 2048], me: usize) -> u32
 pub fn answer_ask(cells: &[u8; 2048], me: usize) -> Answer
     ensures { result ≡ ask_answer cells.now (me % 32) }
 {
-    let here = me % 32;
-    let count = count_signalled(cells, here);
-    let Found::At(i) = first_signalled(cells, here) else {
-        return Answer::Signals(0, count);
-    };
-    let lowest = i as u16;
-    Answer::Signals(lowest, count)
+    let lowest = first_signalled(cells, me).unwrap_or(0);
+    let count = count_signalled(cells, me);
+    Answer::Signals(lowest as u16, count)
 }

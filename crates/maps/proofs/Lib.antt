@@ -1,4 +1,3 @@
-pub mod Asked
 pub mod Parts
 pub mod Sent
 pub mod Calls

@@ -1,14 +1,12 @@
 -- A map in parts: one part is a turn on its requests, and parts one after another are the whole.
 -- Assumes nothing.
-use Prim.Native.Nat.{ℕ, zero, suc, ◌+◌, ◌-◌, ◌*◌, ◌/◌, ◌^◌, ◌<◌, ◌≤◌, min}
+use Prim.Native.Nat.{ℕ, zero, suc, ◌+◌, ◌-◌, ◌*◌, ◌/◌, ◌≤◌, min}
 use native.Mathlib.Omega.{arith}
 use mathlib.Core.Path.{◌≡◌, refl, sym, ap, ◌∙◌}
 use mathlib.Core.List.{List, [], ◌∷◌, ◌++◌, append-nil, map-append}
-use lib.ListN.{length, take, drop, length-take, length-drop, length-map, drop_of_length-le}
-use lib.Seq.{length-take-le, take_all, take-add, take-take, take_at}
+use lib.ListN.{length, take, drop, length-drop, length-map, length-append, drop_of_length-le}
+use lib.Seq.{length-take-le, take_all, take-add, take_at, drop_at, drop-drop}
 use borrow.Rule.Slice.PartMut.{put_mid}
-use mir.Syntax.{w64}
-use mir.Val.{Fits}
 use Rattle.house.specs.declared.House.{House}
 use Rattle.house.specs.declared.Request.{Request}
 use Rattle.house.specs.Run.{finally, replies}
@@ -16,7 +14,7 @@ use Rattle.house.proofs.Runs.{finally_append}
 use Rattle.desk.specs.declared.Served.{Served}
 use Rattle.desk.specs.Turn.{requests, wired, share, turned, answered}
 use Rattle.desk.proofs.Laws.{requests_add, length_requests}
-use Rattle.desk.proofs.TwoTurns.{left16, stays, lent, written_on}
+use Rattle.desk.proofs.TwoTurns.{stays, lent, written_on}
 use Rattle.maps.specs.Map.{read_of, reads, handled, mapped, filled}
 
 -- ONE PART: a turn on its requests is its map
@@ -32,14 +30,12 @@ reads_take level ticket items zero = refl
 reads_take level ticket [] (suc m) = refl
 reads_take level ticket (i ∷ items) (suc m) = ap (λ l. read_of level ticket i ∷ l) (reads_take level ticket items m)
 
-pub one_part : (level ticket : ℕ) (items : List ℕ) (h : House) (room b : List ℕ) → length b ≡ 768 → requests (min 64 (length items)) b ≡ reads level ticket (take 64 items) → (t : Served) (out : List ℕ) → (t ≡ turned h b room (length items)) × (out ≡ answered h b room (length items)) → (t ≡ mapped h level ticket (take 64 items) room) × (out ≡ filled h level ticket (take 64 items) room)
+pub one_part : (level ticket : ℕ) (part : List ℕ) (h : House) (room b : List ℕ) → length part * 12 ≤ length b → requests (length part) b ≡ reads level ticket part → (t : Served) (out : List ℕ) → (t ≡ turned h b room (length part)) × (out ≡ answered h b room (length part)) → (t ≡ mapped h level ticket part room) × (out ≡ filled h level ticket part room)
 unfolding turned answered share mapped filled handled
-one_part level ticket items h room b whole asks t out served =
-    let part = take 64 items in
+one_part level ticket part h room b whole asks t out served =
     let m = min (length part) (length room / 16) in
-    let count : share (length items) b room ≡ m = rw (whole, length-take 64 items) (omega arith) in
-    let small : m ≤ min 64 (length items) = rw (length-take 64 items) (omega arith) in
-    let asked : requests m b ≡ reads level ticket (take m part) = requests_fewer m (min 64 (length items)) b small ∙ ap (take m) asks ∙ reads_take level ticket part m in
+    let count : share (length part) b room ≡ m = omega arith in
+    let asked : requests m b ≡ reads level ticket (take m part) = requests_fewer m (length part) b (omega arith) ∙ ap (take m) asks ∙ reads_take level ticket part m in
     (served.0 ∙ rw (count, asked), served.1 ∙ rw (count, asked))
 
 -- PART AFTER PART
@@ -82,12 +78,6 @@ pub record ReadTo (level ticket : ℕ) (items : List ℕ) (h₀ : House) (room o
 
 -- The next part is read, of the items that are left, with the reply bytes that are left
 module _ {level ticket : ℕ} {items : List ℕ} {h₀ : House} {room out : List ℕ} {h : House} {n : ℕ} (s : ReadTo level ticket items h₀ room out h n) where
-  abbrev left : ℕ
-  left = length items - n
-
-  abbrev part : List ℕ
-  part = take 64 (take left (drop n items))
-
   abbrev rest : List ℕ
   rest = take (length out - n * 16) (drop (n * 16) out)
 
@@ -96,62 +86,51 @@ module _ {level ticket : ℕ} {items : List ℕ} {h₀ : House} {room out : List
       take_all (length out - n * 16) (drop (n * 16) out) (rw (length-drop (n * 16) out) (omega arith))
       ∙ rw s.written (lent h₀ (reads level ticket (take n items)) n (many level ticket items n h₀ s.listed) room)
 
-  module _ {t : Served} (maps : t ≡ mapped h level ticket part rest) where
-    counts : t.count ≡ min (min 64 left) (length room / 16 - n)
-    unfolding mapped handled
-    counts =
-        let all : length (take left (drop n items)) ≡ left = length-take-le left (drop n items) (rw (length-drop n items) (omega arith)) in
-        rw (maps, length-take 64 (take left (drop n items)), all, lent_is, length-drop (n * 16) room, left16 (length room) n)
+  -- as many as are lent are read, since there are places for all items
+  module _ (part behind : List ℕ) (next : drop n items ≡ part ++ behind) (places : length items * 16 ≤ length room) where
+    within : n + length part ≤ length items
+    within =
+        let e : length items - n ≡ length part + length behind = sym (length-drop n items) ∙ ap length next ∙ length-append part behind in
+        omega (arith, s.listed)
 
-    pub part_less : n < length items → n < length room / 16 → length items - (n + t.count) < left
-    part_less l p = let some : 0 < t.count = rw counts (omega arith) in omega arith
+    -- behind them is what is left for the next one
+    pub behind_is : behind ≡ drop (n + length part) items
+    behind_is = sym (sym (drop-drop (length part) n items) ∙ ap (drop (length part)) next ∙ drop_at part behind (length part) refl)
 
-    within : (n + t.count ≤ length items) × ((n + t.count) * 16 ≤ length room)
-    within = rw counts (omega (arith, s.listed), omega (arith, s.placed))
+    part_is : part ≡ take (length part) (drop n items)
+    part_is = sym (ap (take (length part)) next ∙ take_at part behind (length part) refl)
 
-    pub part_counts : length room < 2 ^ 64 → Fits w64 (n + t.count)
-    part_counts l = record { fits = omega (arith, within) }
+    all : handled part rest ≡ length part
+    unfolding handled
+    all = let w = within in rw (lent_is, length-drop (n * 16) room) (omega arith)
 
-    -- its items are the next ones of the list
-    next : take t.count part ≡ take t.count (drop n items)
-    next =
-        let m = t.count in
-        let small : m ≤ min 64 left = rw counts (omega arith) in
-        take-take m 64 (take left (drop n items)) (omega arith) ∙ take-take m left (drop n items) (omega arith)
+    asks : reads level ticket (take (handled part rest) part) ≡ reads level ticket (take (length part) (drop n items))
+    asks = ap (λ m. reads level ticket (take m part)) all ∙ ap (reads level ticket) (take_all (length part) part (omega arith) ∙ part_is)
 
-    houses : t.house ≡ housed_at level ticket items (n + t.count) h₀
-    unfolding mapped
-    houses =
-        let e : t.house ≡ finally h (reads level ticket (take t.count part)) = rw maps in
-        e ∙ rw (next, s.housed) (housed_add level ticket items n h₀ t.count)
+    module _ {t : Served} (maps : t ≡ mapped h level ticket part rest) {given : List ℕ} (fills : given ≡ filled h level ticket part rest) where
+      houses : t.house ≡ housed_at level ticket items (n + length part) h₀
+      unfolding mapped
+      houses = ap (λ x. x.house) maps ∙ ap (finally h) asks ∙ rw s.housed (housed_add level ticket items n h₀ (length part))
 
-    module _ {given : List ℕ} (fills : given ≡ filled h level ticket part rest) where
-      writes : put_mid (n * 16) (length out - n * 16) out given ≡ written_at level ticket items (n + t.count) h₀ room
-      unfolding mapped filled
+      writes : put_mid (n * 16) (length out - n * 16) out given ≡ written_at level ticket items (n + length part) h₀ room
+      unfolding filled
       writes =
-          let m = t.count in
-          let e : given ≡ wired (replies h (reads level ticket (take m part))) ++ drop (m * 16) rest = rw (fills, maps) in
           let kept : take (n * 16) out ≡ wired (replies h₀ (reads level ticket (take n items))) = rw s.written (stays h₀ _ n (many level ticket items n h₀ s.listed) room) in
           let none : drop (length out - n * 16) (drop (n * 16) out) ≡ [] = drop_of_length-le (drop (n * 16) out) {i = length out - n * 16} (rw (length-drop (n * 16) out) (omega arith)) in
-          rw (none, append-nil given, kept, e, lent_is, next, s.housed) (written_add level ticket items n h₀ m room s.listed)
+          rw (none, append-nil given, kept, fills, asks, all, lent_is, s.housed) (written_add level ticket items n h₀ (length part) room s.listed)
 
-      pub part_read : {after : List ℕ} → after ≡ put_mid (n * 16) (length out - n * 16) out given → length after ≡ length room → ReadTo level ticket items h₀ room after t.house (n + t.count)
-      part_read e l = record { listed = within.0; placed = within.1; same = l; housed = houses; written = e ∙ writes }
+      pub part_read : {after : List ℕ} → after ≡ put_mid (n * 16) (length out - n * 16) out given → length after ≡ length room → ReadTo level ticket items h₀ room after t.house (n + length part)
+      part_read e l = record { listed = within; placed = omega (arith, within); same = l; housed = houses; written = e ∙ writes }
 
--- THE END: of the list, or of the places
+-- THE END: as many as there are places for are all that is read of the items
 
-module _ {level ticket : ℕ} {items : List ℕ} {h₀ : House} {room out : List ℕ} {h : House} {n : ℕ} (s : ReadTo level ticket items h₀ room out h n) where
-  abbrev pub Ended : Type 0
-  Ended = (record { house = h; count = n } ≡ mapped h₀ level ticket items room) × (out ≡ filled h₀ level ticket items room)
-
-  ended : handled items room ≡ n → Ended
-  unfolding mapped filled
-  ended e = rw e (rw s.housed refl, s.written)
-
-  pub list_ended : length items ≤ n → Ended
-  unfolding handled
-  list_ended l = ended (omega (arith, s.listed, s.placed))
-
-  pub places_ended : length out / 16 ≤ n → Ended
-  unfolding handled
-  places_ended l = ended (omega (arith, s.listed, s.placed, s.same))
+module _ (level ticket : ℕ) (items : List ℕ) {h₀ : House} {room out : List ℕ} {h : House} {n count : ℕ} (c : count ≡ min (length items) (length room / 16)) (s : ReadTo level ticket (take count items) h₀ room out h n) where
+  pub all_read : length (drop n (take count items)) ≡ 0 → (record { house = h; count = count } ≡ mapped h₀ level ticket items room) × (out ≡ filled h₀ level ticket items room)
+  unfolding mapped filled handled
+  all_read none =
+      let first = take count items in
+      let long : length first ≡ count = length-take-le count items (omega arith) in
+      let over : length first - n ≡ 0 = sym (length-drop n first) ∙ none in
+      let whole : take n first ≡ first = take_all n first (omega arith) in
+      let e : n ≡ count = omega (arith, s.listed) in
+      (rw (← c) (rw (s.housed, whole) refl), s.written ∙ rw (whole, e, ← c) refl)

@@ -3,71 +3,44 @@
 
 #![tactic(auto)]
 
-ghost use Rattle.std.specs.Prelude.{◌≡◌, ◌+◌, ◌≤◌, min, length, take};
-ghost use Rattle.std.proofs.Math.Seq.{paste};
-ghost use Rattle.desk.specs.Turn.{requests};
-ghost use Rattle.wire.specs.Wire.{request_bytes};
-ghost use Rattle.maps.specs.Map.{reads, mapped, filled};
+ghost use Rattle.std.specs.Prelude.{◌≡◌, ◌≤◌, length};
+ghost use Rattle.maps.specs.Map.{mapped, filled};
 
 use desk::{Served, turn_in_place};
-use house::{House, Request};
+use house::{House, Operation, Request};
 use wire::encode_request;
 
-fn put_request(b: &mut [u8], at: usize, q: Request)
-    requires { at + 12 ≤ length b.old }
-    ensures { b.new ≡ paste b.old at (request_bytes q) 12 }
+// The map of a part of the items, 64 at most, in one turn. (Of what a `zip` over `asked` leaves nothing is proved.)
+fn read_part(h: House, level: u8, ticket: u32, part: &[u16], replies: &mut [u8]) -> Served
+    requires { length part.now ≤ 64 }
+    ensures { (result ≡ mapped h level ticket part.now replies.old)
+        × (replies.new ≡ filled h level ticket part.now replies.old) }
 {
-    let x = encode_request(q);
-    for k in 0..12 {
-        b[at + k] = x[k];
-    }
-}
-
-// The requests that read the first items, 64 at most, one behind the other.
-fn put_reads(b: &mut [u8], level: u8, ticket: u32, items: &[u16])
-    requires { 768 ≤ length b.old }
-    ensures { requests (min 64 (length items.now)) b.new ≡ reads level ticket (take 64 items.now) }
-{
-    for k in 0..64 {
-        if items.len() <= k {
-            return;
-        }
-        let item = items[k];
-        let read = Request {
-            operation: 1,
+    let mut asked = [[0; 12]; 64];
+    for (k, item) in part.iter().enumerate() {
+        asked[k] = encode_request(Request {
+            operation: Operation::Read as u8,
             level,
-            item,
+            item: *item,
             ticket,
             value: 0,
-        };
-        put_request(b, k * 12, read);
+        });
     }
+    turn_in_place(h, asked.as_flattened(), replies, part.len())
 }
 
-// The map of the first items, 64 at most, in one turn.
-fn read_part(h: House, level: u8, ticket: u32, items: &[u16], replies: &mut [u8]) -> Served
-    ensures { (result ≡ mapped h level ticket (take 64 items.now) replies.old)
-        × (replies.new ≡ filled h level ticket (take 64 items.now) replies.old) }
-{
-    let mut asked = [0u8; 768];
-    put_reads(&mut asked, level, ticket, items);
-    turn_in_place(h, &asked, replies, items.len())
-}
-
-pub fn read_map(h: House, level: u8, ticket: u32, items: &[u16], replies: &mut [u8]) -> Served
+pub fn read_map(mut h: House, level: u8, ticket: u32, items: &[u16], replies: &mut [u8]) -> Served
     ensures { (result ≡ mapped h level ticket items.now replies.old)
         × (replies.new ≡ filled h level ticket items.now replies.old) }
 {
-    let mut h = h;
+    let count = items.len().min(replies.len() / 16);
+    // what the parts before had: by `enumerate` it would have to be known that each had 64
     let mut n = 0;
-    while n < items.len() {
-        if replies.len() / 16 <= n {
-            return Served { house: h, count: n };
-        }
+    for part in items[..count].chunks(64) {
         let at = n * 16;
-        let part = read_part(h, level, ticket, &items[n..], &mut replies[at..]);
-        h = part.house;
-        n += part.count;
+        let served = read_part(h, level, ticket, part, &mut replies[at..]);
+        h = served.house;
+        n += part.len();
     }
-    Served { house: h, count: n }
+    Served { house: h, count }
 }

@@ -1,29 +1,25 @@
 // What is done with single parts of a house: the marks of one lock cell, a version, a ticket, a row; and the reply to a request.
-// One function serves all four marks; above this crate nobody divides.
+// One function serves all four marks.
 
 #![tactic(auto)]
 
 mod rows;
 
-ghost use Rattle.std.specs.Prelude.{◌≡◌, ◌%◌, eqb};
+ghost use Rattle.std.specs.Prelude.{◌≡◌, ◌||◌, ◌+◌, ◌*◌, ◌%◌, eqb, slice_range};
 ghost use Rattle.house.specs.declared.Answer.TheVariants.{Delayed};
+ghost use Rattle.house.specs.declared.Mark.TheVariants.{Write, Certify};
 ghost use Rattle.house.specs.Search.{any};
 ghost use Rattle.house.specs.Cell.{weight, has, marked, unmarked, holds};
 ghost use Rattle.house.specs.House.{dominates, level_of};
-ghost use Rattle.house.specs.Rules.{signals_at, grown, ticket_after, said, replied};
+ghost use Rattle.house.specs.Rules.{signals_at, grown, ticket_after, replied};
 
-use house::{Answer, Mark, Place, Reply, Request, Rule};
+use house::{Answer, Mark, Operation, Place, Reply, Request, Rule};
 pub use rows::{active, certified, left_free};
 
 fn weigh(m: Mark) -> u8
     ensures { result ≡ weight m }
 {
-    match m {
-        Mark::Read => 1,
-        Mark::Write => 2,
-        Mark::Certify => 4,
-        Mark::Signalled => 8,
-    }
+    m as u8
 }
 
 pub fn has_mark(m: Mark, c: u8) -> bool
@@ -44,53 +40,62 @@ pub fn without_mark(m: Mark, c: u8) -> u8
     if has_mark(m, c) { c - weigh(m) } else { c }
 }
 
+// The item of that cell is written, by the transaction whose cell it is.
+pub fn is_written(c: u8) -> bool
+    ensures { result ≡ (has Write c || has Certify c) }
+{
+    has_mark(Mark::Write, c) | has_mark(Mark::Certify, c)
+}
+
 // Level a dominates level b. Past the table's end nothing is dominated.
+#[tactic(auto, unfolding(house::specs::House::dominates))]
 pub fn dominates(order: [u8; 16], a: u8, b: u8) -> bool
     ensures { result ≡ dominates order a b }
 {
-    let n = 4 * (b as usize) + (a as usize);
-    if n < 16 { order[n] == 1 } else { false }
+    let n = 4 * usize::from(b) + usize::from(a);
+    order.get(n).copied().unwrap_or(0) == 1
 }
 
-// The transaction at place `me`, modulo 32, has the mark on some item. Without a way out of its loop the scan is compiled to a few
-// wide instructions.
+// The 64 cells of the transaction at place `me`, modulo 32.
+pub fn own_cells(cells: &[u8; 2048], me: usize) -> &[u8]
+    ensures { result.now ≡ slice_range cells.now (me % 32 * 64) (me % 32 * 64 + 64) }
+{
+    let from = me % 32 * 64;
+    &cells[from..from + 64]
+}
+
+// That transaction has the mark on some item. Without a way out the scan is compiled to a few wide instructions, so it is no `any`.
 pub fn holds_any(cells: &[u8; 2048], m: Mark, me: usize) -> bool
     ensures { result ≡ any (holds cells.now m (me % 32)) 0 64 }
 {
-    let here = me % 32;
-    let mut hit = false;
-    for i in 0..64 {
-        hit = hit | has_mark(m, cells[here * 64 + i]);
-    }
-    hit
+    own_cells(cells, me)
+        .iter()
+        .fold(false, |hit, c| hit | has_mark(m, *c))
 }
 
-// Whether that operation gives the signals.
+// Whether that operation gives the signals. It is asked by a number, and answers for any.
 pub fn gives_at(rule: Rule, operation: u8) -> bool
     ensures { result ≡ eqb (signals_at rule) operation }
 {
-    match rule {
-        Rule::A => 3 == operation,
-        Rule::B => 4 == operation,
-    }
+    let at = match rule {
+        Rule::A => Operation::Certify,
+        Rule::B => Operation::Commit,
+    };
+    Operation::try_from(operation) == Ok(at)
 }
 
 #[tactic(auto, unfolding(house::specs::Rules::grown))]
 pub fn grow(version: u32) -> u32
     ensures { result ≡ grown version }
 {
-    if version < 4294967295 {
-        version + 1
-    } else {
-        version
-    }
+    version.saturating_add(1)
 }
 
 #[tactic(auto, unfolding(house::specs::Rules::ticket_after))]
 pub fn next_ticket(ticket: u32) -> u32
     ensures { result ≡ ticket_after ticket }
 {
-    if ticket < 4294967295 { ticket + 1 } else { 0 }
+    ticket.checked_add(1).unwrap_or(0)
 }
 
 // A delay names its holder, by the row and the number, modulo 32, of its place.
@@ -101,28 +106,37 @@ pub fn delayed_by(holder: Place, p: usize) -> Answer
     Answer::Delayed(holder.ticket, level)
 }
 
-fn say(q: Request, number: u8, item: u16, ticket: u32, value: u32, version: u32) -> Reply
-    ensures { result ≡ said q number item ticket value version }
-{
-    Reply {
-        number,
-        operation: q.operation,
-        item,
-        ticket,
-        value,
-        version,
-    }
-}
-
+// A reply repeats the request's operation, item and ticket, where the answer brings no others.
 pub fn reply_to(q: Request, answer: Answer) -> Reply
     ensures { result ≡ replied q answer }
 {
+    let done = Reply {
+        number: 0,
+        operation: q.operation,
+        item: q.item,
+        ticket: q.ticket,
+        value: 0,
+        version: 0,
+    };
     match answer {
-        Answer::Refused(number) => say(q, number, q.item, q.ticket, 0, 0),
-        Answer::Delayed(holder, level) => say(q, 1, q.item, q.ticket, holder, level),
-        Answer::Done => say(q, 0, q.item, q.ticket, 0, 0),
-        Answer::Ticket(ticket) => say(q, 0, q.item, ticket, 0, 0),
-        Answer::Pair(value, version) => say(q, 0, q.item, q.ticket, value, version),
-        Answer::Signals(item, count) => say(q, 0, item, q.ticket, count, 0),
+        Answer::Refused(number) => Reply { number, ..done },
+        Answer::Delayed(holder, level) => Reply {
+            number: 1,
+            value: holder,
+            version: level,
+            ..done
+        },
+        Answer::Done => done,
+        Answer::Ticket(ticket) => Reply { ticket, ..done },
+        Answer::Pair(value, version) => Reply {
+            value,
+            version,
+            ..done
+        },
+        Answer::Signals(item, count) => Reply {
+            item,
+            value: count,
+            ..done
+        },
     }
 }

@@ -20,7 +20,7 @@ pub fn certified(place: Place) -> Place
 {
     Place {
         standing: Standing::Certified,
-        ticket: place.ticket,
+        ..place
     }
 }
 

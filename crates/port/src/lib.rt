@@ -6,6 +6,7 @@
 
 ghost use Rattle.std.specs.Prelude.{◌≡◌, length};
 ghost use Rattle.desk.specs.Turn.{turned, answered};
+ghost use Rattle.house.specs.Opening.{number_of};
 ghost use Rattle.maps.specs.Map.{mapped, filled};
 ghost use Rattle.port.specs.Call.{opening_by};
 
@@ -14,32 +15,29 @@ use house::{Opening, Rule};
 use maps::read_map;
 use opening::open;
 
-// The rule is a number: 0 is A, 1 is B. Another is refused with 28.
+// The rule is a number: 0 is A, 1 is B. Another is refused with 28, and yields the house that any refused opening does.
 fn open_by(levels: &[u8], table: &[u8], rule: u8) -> Opening
     ensures { result ≡ opening_by levels.now table.now rule }
 {
-    match rule {
-        0 => open(levels, table, Rule::A),
-        1 => open(levels, table, Rule::B),
-        _ => {
-            let refused = open(b"", b"", Rule::A);
-            let house = refused.house;
-            Opening { number: 28, house }
-        }
+    match Rule::try_from(rule) {
+        Ok(rule) => open(levels, table, rule),
+        Err(misfit) => Opening {
+            misfit: Some(misfit),
+            house: open(b"", b"", Rule::A).house,
+        },
     }
 }
 
 // The number of an opening: 0, 28, 13, 14 or 16.
 #[unsafe(no_mangle)]
 pub extern "C" fn desk_fresh_open(levels: &[u8], table: &[u8], rule: u8) -> u8
-    ensures { result ≡ (opening_by levels.now table.now rule).number }
+    ensures { result ≡ number_of (opening_by levels.now table.now rule) }
 {
-    let opened = open_by(levels, table, rule);
-    opened.number
+    open_by(levels, table, rule).misfit.map_or(0, u8::from)
 }
 
 // Opens a house and serves one turn in it, the house by value from step to step; the count of the requests answered. A refused
-// opening has no items, and its turn is served too.
+// opening has no items, and its turn is served too. (One function for this and the next, over the turn that it makes, would be longer.)
 #[unsafe(no_mangle)]
 pub extern "C" fn desk_fresh_turn(
     levels: &[u8],
@@ -54,9 +52,7 @@ pub extern "C" fn desk_fresh_turn(
         × (replies.new ≡ answered opened requests.now replies.old most) }
 {
     let opened = open_by(levels, table, rule);
-    let house = opened.house;
-    let served = turn(house, requests, replies, most);
-    served.count
+    turn(opened.house, requests, replies, most).count
 }
 
 // The same with the house changed where it lies: the call for many requests.
@@ -74,9 +70,7 @@ pub extern "C" fn desk_fresh_turn_in_place(
         × (replies.new ≡ answered opened requests.now replies.old most) }
 {
     let opened = open_by(levels, table, rule);
-    let house = opened.house;
-    let served = turn_in_place(house, requests, replies, most);
-    served.count
+    turn_in_place(opened.house, requests, replies, most).count
 }
 
 // Opens a house, serves a turn of all requests of `before` in it, reads the map of `items`, and serves a turn of all requests of
@@ -105,11 +99,8 @@ pub extern "C" fn desk_fresh_map(
         × (later.new ≡ answered map.house after.now later.old (length after.now)) }
 {
     let opened = open_by(levels, table, rule);
-    let house = opened.house;
-    let served = turn_in_place(house, before, earlier, before.len());
-    let house = served.house;
-    let map = read_map(house, level, ticket, items, replies);
-    let house = map.house;
-    turn_in_place(house, after, later, after.len());
+    let served = turn_in_place(opened.house, before, earlier, before.len());
+    let map = read_map(served.house, level, ticket, items, replies);
+    turn_in_place(map.house, after, later, after.len());
     map.count
 }

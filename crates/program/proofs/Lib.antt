@@ -1,4 +1,3 @@
-mod AfterRound
 mod Filled
 mod Moving
 pub mod Telling

@@ -1,20 +1,13 @@
 -- A round moves what it should: what is known where it ends.
 -- Assumes nothing.
-use Rattle.std.proofs.Common.{ℕ, ◌<◌, ◌≤◌, ◌≡◌, ◌⊎◌, inl, inr, List, ◌++◌, Option, Result, Ok, Err, IsOk, OnOk, length, take, ap, subst}
+use Rattle.std.proofs.Common.{ℕ, ◌<◌, ◌≤◌, ◌≡◌, List, ◌++◌, Option, length, take, ap, subst}
 use Rattle.std.specs.Io.KnownBytes.{Consumes, Appends}
 use Rattle.dialogue.specs.declared.Dialogue.{Dialogue}
 use Rattle.dialogue.specs.declared.Heard.{Heard}
-use Rattle.dialogue.specs.declared.Stage.{Stage}
 use Rattle.dialogue.specs.Dialogue.{heard}
 use Rattle.dialogue.specs.Rounds.{round}
 use Rattle.dialogue.proofs.Rounds.{brought_read}
-use Rattle.program.specs.declared.Next.{Next}
-use Rattle.program.specs.declared.Next.TheVariants.{Round, End, Failed}
-use Rattle.program.specs.Moves.{at_next, IsRefused, AfterReplies, Answered}
-
-where_ok : {E T P : Type 0} (r : Result T E) → IsOk r → OnOk r P → P
-where_ok (Ok x) i p = p
-where_ok (Err e) i p = cc
+use Rattle.program.specs.Moves.{Answered}
 
 -- what a read brought was heard, and the replies were written
 pub answered : (given left held holds : Option (List ℕ)) (s : Dialogue) (buffer : List ℕ) (have : ℕ) (room part : List ℕ) (got : ℕ) (x : Heard) (after out : List ℕ)
@@ -32,9 +25,3 @@ answered given left held holds s buffer have room part got x after out e b l g p
       front = ap (λ y. y.1) e;
       written = subst (λ y. Appends held holds (take y.0.written y.2)) e w;
     }
-
--- another round and the end come only where the replies were written
-pub comes : {E A P : Type 0} (B C : Type 0) (put : Result (Unit {0}) E) (stage : Stage) (next : Next) → AfterReplies put stage next → OnOk put P → (P → A) → at_next next (A ⊎ B) (C ⊎ (A × IsRefused stage)) (Unit {0})
-comes B C put stage Round i p a = inl (a (where_ok put i p))
-comes B C put stage End i p a = inr (a (where_ok put i.0 p), i.1)
-comes B C put stage (Failed f) i p a = tt

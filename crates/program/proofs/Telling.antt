@@ -13,10 +13,10 @@ use Rattle.dialogue.specs.Dialogue.{started, ended, heard}
 use Rattle.dialogue.specs.Pieces.{programmed, farewell}
 use Rattle.dialogue.specs.Rounds.{Room, round}
 use Rattle.dialogue.proofs.Pieces.{before, expected, Unfinished, Fresh, expected_last, fresh_start, nothing_yet, all_expected}
-use Rattle.program.proofs.AfterRound.{AfterRound, after_round}
+use Rattle.dialogue.proofs.AfterRound.{AfterRound, after_round}
 use Rattle.program.specs.declared.Next.{Next}
-use Rattle.program.specs.declared.Next.TheVariants.{Round, End, Failed}
-use Rattle.program.specs.Moves.{at_next, Answered, Unmoved, Moved}
+use Rattle.program.specs.declared.Next.TheVariants.{Round, End}
+use Rattle.program.specs.Moves.{Answered, Unmoved, Moved}
 use Rattle.program.specs.Whole.{AllButFarewell}
 
 -- of the bytes `given`, `left` are still to be read; the writer held `held`, and holds `holds`; and the dialogue s has bytes that it did not use
@@ -123,10 +123,8 @@ module _ (given left held holds : Option (List ℕ)) (s : Dialogue) (buffer : Li
     pub another : (next : Next) → Moved left left' holds holds' s buffer have room t kept after out next → next ≡ Round → Told given left' held holds' t (take kept after)
     another Round m e = goes_on _ _ _ _ s buffer have room T _ _ t kept after out roomy m
     another End m e = cc
-    another (Failed f) m e = cc
 
-    pub ends : (next : Next) → Moved left left' holds holds' s buffer have room t kept after out next → (next ≡ Round → ⊥) → at_next next ⊥ (AllButFarewell given held holds' t) (Unit {0})
-    ends Round m n = absurd (n refl)
+    pub ends : (next : Next) → Moved left left' holds holds' s buffer have room t kept after out next → next ≡ End → AllButFarewell given held holds' t
+    ends Round m n = cc
     ends End (inl u) n = all_read _ _ _ _ t _ (unmoved_told _ _ _ _ s buffer have room T _ _ t kept after out u.0) u.1
     ends End (inr a) n = all_refused _ _ _ _ t _ (answered_told _ _ _ _ s buffer have room T _ _ t kept after out roomy a.0) a.1.0 a.1.1
-    ends (Failed f) m n = tt

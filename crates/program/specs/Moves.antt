@@ -1,31 +1,21 @@
 -- What moves in a round of the program, where the bytes are known that its reader has left and that its writer holds.
 -- Assumes nothing.
-use Rattle.std.specs.Prelude.{ℕ, ◌≡◌, ◌⊎◌, ⊤, List, Option, take, Result, MatchResult, IsOk, IsErr}
+use Rattle.std.specs.Prelude.{ℕ, ◌≡◌, ◌⊎◌, List, Option, take}
 use Rattle.std.specs.Io.KnownBytes.{Keeps, Consumes, Appends, IsAtEnd}
 use Rattle.dialogue.specs.declared.Dialogue.{Dialogue}
 use Rattle.dialogue.specs.declared.Stage.{Stage}
 use Rattle.dialogue.specs.declared.Stage.TheVariants.{Refused}
 use Rattle.dialogue.specs.Rounds.{Read, Reading, round}
 use Rattle.program.specs.declared.Next.{Next}
-use Rattle.program.specs.declared.Next.TheVariants.{Round, End, Failed}
+use Rattle.program.specs.declared.Next.TheVariants.{Round, End}
 
 -- what comes after a round
-abbrev pub at_next {ℓ} : {A : Type ℓ} → Next → A → A → A → A
-at_next Round another over failed = another
-at_next End another over failed = over
-at_next (Failed f) another over failed = failed
+abbrev pub at_next {ℓ} : {A : Type ℓ} → Next → A → A → A
+at_next Round another over = another
+at_next End another over = over
 
 abbrev pub IsRefused : Stage → Type 0
 IsRefused s = (n : ℕ) × (s ≡ Refused n)
-
--- after a read that brought nothing: only where the input ended, it is over
-abbrev pub AfterNoBytes : {E : Type 0} → Result ℕ E → Next → Type 0
-AfterNoBytes got next = MatchResult got (λ _. next ≡ End) (λ _. at_next next ⊤ ⊥ ⊤)
-
--- after replies: another round and the end come only where they were written, and the end only of what is refused; failure only where they
--- were not
-abbrev pub AfterReplies : {E : Type 0} → Result (Unit {0}) E → Stage → Next → Type 0
-AfterReplies put stage next = at_next next (IsOk put) (IsOk put × IsRefused stage) (IsErr put)
 
 -- The reader had the bytes `given`, and has `left`; the writer held `held`, and holds `holds`. The round led from the dialogue s to t,
 -- from `have` to `kept` bytes that are kept, from one buffer to another, and from `room` to `out`.
@@ -49,4 +39,4 @@ module _ (given left held holds : Option (List ℕ)) (s : Dialogue) (buffer : Li
     pub front : take have after ≡ take have buffer
 
   abbrev pub Moved : Next → Type 0
-  Moved next = at_next next (Answered ⊎ Unmoved) ((Unmoved × IsAtEnd left) ⊎ (Answered × IsRefused t.stage)) ⊤
+  Moved next = at_next next (Answered ⊎ Unmoved) ((Unmoved × IsAtEnd left) ⊎ (Answered × IsRefused t.stage))

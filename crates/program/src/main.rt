@@ -4,16 +4,16 @@
 
 #![tactic(auto)]
 
-ghost use Rattle.std.specs.Prelude.{◌<◌, ⊤, length, OnOk};
+ghost use Rattle.std.specs.Prelude.{◌<◌, length, OnOk, IfOk};
 ghost use Rattle.std.specs.Io.KnownBytes.{Appends};
 ghost use Rattle.dialogue.specs.Rounds.{Room, Exchanged};
-ghost use Rattle.program.specs.Moves.{at_next, AfterNoBytes, AfterReplies, Moved};
+ghost use Rattle.program.specs.Moves.{Moved};
 ghost use Rattle.program.specs.Whole.{AllButFarewell, AllWritten};
 
 use dialogue::{Dialogue, Stage};
-use std::io;
 use std::io::{ErrorKind, Read, Write};
 use std::process::ExitCode;
+use std::{fmt, io};
 
 // What failed, with why.
 #[derive(Drop)]
@@ -22,183 +22,128 @@ enum Failure {
     Write(io::Error),
 }
 
-// What comes after a round: another, the end, or nothing, since a read or a write failed.
-#[derive(Drop)]
+impl fmt::Display for Failure {
+    fn fmt<W: fmt::Write>(&self, f: &mut fmt::Formatter<W>) -> fmt::Result {
+        match self {
+            Failure::Read(why) => write!(f, "cannot read standard input: {why}"),
+            Failure::Write(why) => write!(f, "cannot write standard output: {why}"),
+        }
+    }
+}
+
+// What comes after a round.
+#[derive(Clone, Copy)]
 enum Next {
     Round,
     End,
-    Failed(Failure),
 }
 
-// The dialogue after a round, how many bytes are kept for the next, and what comes.
+// What stands between two rounds: the dialogue, a buffer that begins with `have` bytes which were not used yet, and the bytes of the replies.
 #[derive(Drop)]
-struct Round {
+struct Conversation {
     dialogue: Dialogue,
+    buffer: [u8; 12288],
     have: usize,
-    next: Next,
-}
-
-// A read that brought nothing: the input ended, a signal came first, or it failed.
-fn after_no_bytes(got: io::Result<usize>) -> Next
-    ensures { AfterNoBytes got result }
-{
-    match got {
-        Ok(_) => Next::End,
-        Err(why) => {
-            if why.kind() == ErrorKind::Interrupted {
-                return Next::Round;
-            }
-            Next::Failed(Failure::Read(why))
-        }
-    }
-}
-
-// Replies that were not written are a failure, and a refused opening is the end.
-fn after_replies(put: io::Result<()>, stage: Stage) -> Next
-    ensures { AfterReplies put stage result }
-{
-    if let Err(why) = put {
-        return Next::Failed(Failure::Write(why));
-    }
-    if let Stage::Refused(_) = stage {
-        Next::End
-    } else {
-        Next::Round
-    }
+    replies: [u8; 16384],
 }
 
 // Writes all bytes, so that none waits in the writer, or says why it cannot. A write that a signal interrupts is tried again.
-fn write_out<W: Write>(output: &mut W, bytes: &[u8]) -> io::Result<()>
+fn write_out<W: Write>(output: &mut W, bytes: &[u8]) -> Result<(), Failure>
     ensures { OnOk result (Appends (W.contents output.old) (W.contents output.new) bytes.now) }
 {
-    let mut done = 0;
-    for _ in 0..u64::MAX {
-        if done == bytes.len() {
-            return output.flush();
-        }
-        match output.write(&bytes[done..]) {
-            Ok(0) => return Err(io::Error::from(ErrorKind::WriteZero)),
-            Ok(put) => done += put,
-            Err(why) => {
-                if why.kind() != ErrorKind::Interrupted {
-                    return Err(why);
-                }
-            }
-        }
-    }
-    Err(io::Error::from(ErrorKind::Interrupted))
+    output.write_all(bytes).map_err(Failure::Write)?;
+    output.flush().map_err(Failure::Write)
 }
 
-// One read, and the replies to what it brought, which is heard behind the bytes that were kept. There is room for the replies, and
-// the buffer is never full. Where a read or a write failed, `round` still holds, and nothing is said of what was written.
-fn exchange<R: Read, W: Write>(
-    input: &mut R,
-    output: &mut W,
-    s: Dialogue,
-    buffer: &mut [u8],
-    have: usize,
-    replies: &mut [u8],
-) -> Round
-    requires { (have < length buffer.old) × Room buffer.old replies.old }
-    ensures round { (result.have < length buffer.new) × Room buffer.new replies.new
-        × Exchanged s buffer.old have replies.old result.dialogue result.have buffer.new replies.new }
-    ensures moved { Moved (R.remaining input.old) (R.remaining input.new) (W.contents output.old) (W.contents output.new)
-        s buffer.old have replies.old result.dialogue result.have buffer.new replies.new result.next }
+impl Conversation {
+    // One read, and the replies to what it brought, which is heard behind the bytes that were kept. There is room for the replies, and
+    // the buffer is never full. Where a read or a write failed, `round` still holds, and nothing is said of what was written.
+    fn exchange<R: Read, W: Write>(
+        &mut self,
+        input: &mut R,
+        output: &mut W,
+    ) -> Result<Next, Failure>
+        requires { (self.old.have < length self.old.buffer) × Room self.old.buffer self.old.replies }
+        ensures round { (self.new.have < length self.new.buffer) × Room self.new.buffer self.new.replies
+            × Exchanged self.old.dialogue self.old.buffer self.old.have self.old.replies
+            self.new.dialogue self.new.have self.new.buffer self.new.replies }
+        ensures moved { IfOk result (Moved (R.remaining input.old) (R.remaining input.new) (W.contents output.old) (W.contents output.new)
+            self.old.dialogue self.old.buffer self.old.have self.old.replies
+            self.new.dialogue self.new.have self.new.buffer self.new.replies) }
+    {
+        let got = match input.read(&mut self.buffer[self.have..]) {
+            Ok(0) => return Ok(Next::End),
+            Ok(got) => got,
+            Err(why) if why.kind() == ErrorKind::Interrupted => return Ok(Next::Round),
+            Err(why) => return Err(Failure::Read(why)),
+        };
+        let heard = dialogue::hear(
+            self.dialogue,
+            &mut self.buffer,
+            self.have,
+            got,
+            &mut self.replies,
+        );
+        self.dialogue = heard.dialogue;
+        self.have = heard.have;
+        write_out(output, &self.replies[..heard.written])?;
+        match heard.dialogue.stage {
+            Stage::Refused(_) => Ok(Next::End),
+            _ => Ok(Next::Round),
+        }
+    }
+}
+
+// Round after round, until the input ends or its opening is refused; the last dialogue. A proved loop has to end, and nothing says that an
+// input does: so it counts up to a number that no run reaches, and there would say that it cannot read on. Where the bytes are known, all
+// that was to be written of them is written but the farewell.
+fn converse<R: Read, W: Write>(input: &mut R, output: &mut W) -> Result<Dialogue, Failure>
+    ensures { IfOk result (AllButFarewell (R.remaining input.old) (W.contents output.old) (W.contents output.new)) }
 {
-    let got = input.read(&mut buffer[have..]);
-    let more = match got {
-        Ok(more) => more,
-        Err(_) => 0,
+    let mut conversation = Conversation {
+        dialogue: dialogue::start(),
+        buffer: [0; 12288],
+        have: 0,
+        replies: [0; 16384],
     };
-    if more == 0 {
-        return Round {
-            dialogue: s,
-            have,
-            next: after_no_bytes(got),
-        };
-    }
-    let heard = dialogue::hear(s, buffer, have, more, replies);
-    let dialogue = heard.dialogue;
-    let stage = dialogue.stage;
-    let written = heard.written;
-    let put = write_out(output, &replies[..written]);
-    Round {
-        dialogue,
-        have: heard.have,
-        next: after_replies(put, stage),
-    }
-}
-
-// Round after round, until the input ends or its opening is refused. A proved loop has to end, and nothing says that an input does: so
-// it counts up to a number that no run reaches, and there would say that it cannot read on. Where the bytes are known, all that was to
-// be written of them is written but the farewell.
-fn converse<R: Read, W: Write>(input: &mut R, output: &mut W) -> Round
-    ensures { at_next result.next ⊥
-        (AllButFarewell (R.remaining input.old) (W.contents output.old) (W.contents output.new) result.dialogue) ⊤ }
-{
-    let mut buffer = [0u8; 12288];
-    let mut replies = [0u8; 16384];
-    let mut s = dialogue::start();
-    let mut have = 0;
     for _ in 0..u64::MAX {
-        let r = exchange(input, output, s, &mut buffer, have, &mut replies);
-        let Next::Round = r.next else {
-            return r;
-        };
-        s = r.dialogue;
-        have = r.have;
+        if let Next::End = conversation.exchange(input, output)? {
+            return Ok(conversation.dialogue);
+        }
     }
-    Round {
-        dialogue: s,
-        have,
-        next: Next::Failed(Failure::Read(io::Error::from(ErrorKind::TimedOut))),
-    }
+    Err(Failure::Read(io::Error::from(ErrorKind::TimedOut)))
 }
 
 // The whole dialogue, and what is written at its end. Where the bytes are known, what is written of them is what should be.
 fn serve<R: Read, W: Write>(input: &mut R, output: &mut W) -> Result<(), Failure>
     ensures { OnOk result (AllWritten (R.remaining input.old) (W.contents output.old) (W.contents output.new)) }
 {
-    let last = converse(input, output);
-    let stage = last.dialogue.stage;
-    if let Next::Failed(failure) = last.next {
-        return Err(failure);
-    }
-    if let Stage::Refused(number) = dialogue::finish(stage) {
-        let reply = dialogue::refuse(number);
-        if let Err(why) = write_out(output, &reply) {
-            return Err(Failure::Write(why));
-        }
+    let last = converse(input, output)?;
+    if let Stage::Refused(number) = dialogue::finish(last.stage) {
+        write_out(output, &dialogue::refuse(number))?;
     }
     Ok(())
 }
 
 // The reason alone, without the number that the system has for it.
 fn reason(text: &str) -> &str {
-    match text.split_once(" (os error ") {
-        Some((words, _)) => words,
-        None => text,
-    }
+    text.split_once(" (os error ")
+        .map_or(text, |(words, _)| words)
 }
 
 // Tells standard error what failed, and why. Where that fails too, there is nobody left to be told.
 fn tell(rt: &HostRuntime, failure: Failure) {
-    let (what, why) = match failure {
-        Failure::Read(why) => ("desk: cannot read standard input", why),
-        Failure::Write(why) => ("desk: cannot write standard output", why),
+    let _ = match failure.to_string(rt.alloc()) {
+        Ok(text) => eprintln!(rt; "desk: {}", reason(&text)),
+        Err(_) => eprintln!(rt; "desk: {failure}"),
     };
-    let told = match why.to_string(rt.alloc()) {
-        Ok(text) => eprintln!(rt; "{what}: {}", reason(&text)),
-        Err(_) => eprintln!(rt; "{what}: {why}"),
-    };
-    let _ = told;
 }
 
 fn main(rt: HostRuntime) -> ExitCode {
     let (mut input, mut output) = (rt.stdin(), rt.stdout());
-    let Err(failure) = serve(&mut input, &mut output) else {
-        return ExitCode::SUCCESS;
-    };
-    tell(&rt, failure);
-    ExitCode::FAILURE
+    if let Err(failure) = serve(&mut input, &mut output) {
+        tell(&rt, failure);
+        return ExitCode::FAILURE;
+    }
+    ExitCode::SUCCESS
 }

@@ -9,8 +9,7 @@ use mathlib.Core.Bool.{Bool, true, false, ◌&&◌, ◌||◌, not, cond}
 use mathlib.Core.List.{List, [], ◌∷◌}
 use lib.Dec.{eqb, leb}
 use borrow.Author.Tests.{eqb-true, ne_eqb}
-use Rattle.house.specs.declared.Found.{Found}
-use Rattle.house.specs.declared.Found.TheVariants.{At, Nobody}
+use Rattle.std.specs.Prelude.{Option, Some, None}
 use Rattle.house.specs.declared.House.{House}
 use Rattle.house.specs.declared.Mark.{Mark}
 use Rattle.house.specs.declared.Mark.TheVariants.{Read, Write, Certify, Signalled}
@@ -20,7 +19,8 @@ use Rattle.house.specs.Cell.{has, cell_at, holds, another_holds, is_signalled}
 use Rattle.house.specs.House.{vacant, dominates, level_of, item_at, place_at, free_at, is_active, is_certified, has_ticket, seek, vacancy}
 use Rattle.house.specs.Checks.{foremost}
 use Rattle.house.specs.Rules.{begin, read, write, certify, commit, ◌does◌, asker, uses_item, unknown, no_item, forbidden, stopped, untimely, worn_out, crowded, ticketless, another_claims, peer_reads, hinders, wants, holder_on, conflict, holder, refusals}
-use Rattle.house.proofs.Tests.{is, same, clash, refuted, and_true, or_false, or_right}
+use Rattle.std.proofs.lemmas.Bool.{cases_Bool, false_from_ne_true, and_parts, or_parts, or_right}
+use Rattle.house.proofs.Tests.{same, clash}
 use Rattle.house.proofs.Searches.{scan_same, round_same, first_same}
 use Rattle.house.proofs.Holders.{hinders_claims, holder_at}
 use Rattle.house.proofs.Places.{seek_at}
@@ -39,7 +39,7 @@ data Agree : List (ℕ × Bool) → List (ℕ × Bool) → Type 0 where
 
 agreed : {xs ys : List (ℕ × Bool)} → Agree xs ys → foremost xs ≡ foremost ys
 agreed none = refl
-agreed (check n {a} e f) = elim (is a) [ inl t ↦ rw (t, sym e ∙ t) | inr t ↦ rw (t, sym e ∙ t) (agreed (f t)) ]
+agreed (check n {a} e f) = elim (cases_Bool a) [ inl t ↦ rw (t, sym e ∙ t) | inr t ↦ rw (t, sym e ∙ t) (agreed (f t)) ]
 
 module _ (k : ℕ) {h g : House} (A : Alike k h g) where
   -- the two searches over the places of a level
@@ -93,9 +93,9 @@ module _ (k : ℕ) {h g : House} (A : Alike k h g) where
       by_asker : {X : Type 0} (x y : ℕ → X) (z : X) → ((me : ℕ) → me < 32 → dominates h.order k (level_of me) ≡ true → x me ≡ y me) → if_found (asker h q) x z ≡ if_found (asker g q) y z
       by_asker x y z e = either (asker h q) refl ∙ ap (λ who. if_found who y z) asker_alike
         where
-          either : (who : Found) → asker h q ≡ who → if_found who x z ≡ if_found who y z
-          either (At me) s = let w = (seek_at h.places q.level q.ticket me b s).within in e me w.place (rw w.level d)
-          either Nobody s = refl
+          either : (who : Option ℕ) → asker h q ≡ who → if_found who x z ≡ if_found who y z
+          either (Some me) s = let w = (seek_at h.places q.level q.ticket me b s).within in e me w.place (rw w.level d)
+          either None s = refl
 
       -- the tests, in the order of the checks
       unknown_alike : unknown h q ≡ unknown g q
@@ -123,7 +123,7 @@ module _ (k : ℕ) {h g : House} (A : Alike k h g) where
       worn_alike : no_item h q ≡ false → forbidden h q ≡ false → worn_out h q ≡ worn_out g q
       unfolding worn_out
       worn_alike c7 c8 =
-          elim (is (q does write)) [
+          elim (cases_Bool (q does write)) [
             | inl w ↦ let u = or_right (q does read) (q does write) w in rw (A.items q.item (item_there h q u c7).1 (item_seen u c8)).0
             | inr n ↦ rw n
           ]
@@ -161,11 +161,11 @@ module _ (k : ℕ) {h g : House} (A : Alike k h g) where
     -- on an item of a level that k dominates nobody else has a write or certify lock: those are at the item's level
     module _ (m : Mark) (writes : (c : ℕ) → has m c ≡ true → held c ≡ true) (i : ℕ) (a : i < 64) (d : dominates h.order k (item_at h.items i).level ≡ true) where
       unheld : {f : House} → Law f → (item_at h.items i).level ≡ (item_at f.items i).level → (p : ℕ) → p < 32 → dominates h.order k (level_of p) ≡ false → has m (cell_at f.cells p i) ≡ false
-      unheld {f} N e p b n = refuted _ (λ y. clash (rw (e, (N.cells p i b a).owned (writes _ y)) at d) n)
+      unheld {f} N e p b n = false_from_ne_true _ (λ y. clash (rw (e, (N.cells p i b a).owned (writes _ y)) at d) n)
 
       held_alike : (p : ℕ) → p < 32 → has m (cell_at h.cells p i) ≡ has m (cell_at g.cells p i)
       held_alike p b =
-          elim (is (dominates h.order k (level_of p))) [
+          elim (cases_Bool (dominates h.order k (level_of p))) [
             | inl y ↦ ap (has m) (A.cells p i b a y)
             | inr n ↦ unheld (kept_law K) refl p b n ∙ sym (unheld (kept_law J) (level_alike A i) p b n)
           ]
@@ -186,20 +186,20 @@ module _ (k : ℕ) {h g : House} (A : Alike k h g) where
           hinders_alike : hinders h.cells q.operation me i p ≡ hinders g.cells q.operation me i p
           unfolding hinders another_claims
           hinders_alike =
-              elim (is (uses_item q)) [
+              elim (cases_Bool (uses_item q)) [
                 | inl u ↦ let s = wanted_seen i w u in rw (other_alike Certify held_certify i a s me p b, other_alike Write held_write i a s me p b, peer_alike me m low i p a b)
-                | inr n ↦ let none = or_false (q does read) (q does write) n in rw (none.0, none.1, peer_alike me m low i p a b)
+                | inr n ↦ let none = or_parts (q does read) (q does write) n in rw (none.0, none.1, peer_alike me m low i p a b)
               ]
 
           -- (as `holder_below` of reach; CR 3 does without it, so that edits of the rules which both notice can be tried on CR 3 alone)
           hinders_seen : hinders h.cells q.operation me i p ≡ true → dominates h.order k (level_of p) ≡ true
           unfolding hinders peer_reads
           hinders_seen y =
-              elim (is (uses_item q)) [
+              elim (cases_Bool (uses_item q)) [
                 | inl u ↦ claimed_below (kept_law K) k me p i b a (wanted_seen i w u) (hinders_claims h.cells q me i p u y)
                 | inr n ↦
-                    let none = or_false (q does read) (q does write) n in
-                    let l : level_of p ≡ level_of me = eqb-true _ _ (and_true (eqb (level_of p) (level_of me)) _ (rw (none.0, none.1) at y)).0 in
+                    let none = or_parts (q does read) (q does write) n in
+                    let l : level_of p ≡ level_of me = eqb-true _ _ (and_parts (eqb (level_of p) (level_of me)) _ (rw (none.0, none.1) at y)).0 in
                     rw l low
               ]
 
@@ -207,7 +207,7 @@ module _ (k : ℕ) {h g : House} (A : Alike k h g) where
         unfolding holder_on
         on_alike i a =
             let e = wants_alike me m low q i a in
-            elim (is (wants h.cells q me i)) [
+            elim (cases_Bool (wants h.cells q me i)) [
               | inl w ↦ rw (w, sym e ∙ w) (scan_same _ _ _ _ 0 32 (λ p x y. hinders_alike i p a (omega arith) w))
               | inr w ↦ rw (w, sym e ∙ w)
             ]
@@ -217,9 +217,9 @@ module _ (k : ℕ) {h g : House} (A : Alike k h g) where
         conflict_alike = first_same _ _ 0 64 (λ i x y. on_alike i (omega arith))
 
       pub holder_alike : Clear h q → holder h q ≡ holder g q
-      holder_alike c = by_asker four K q d c.level (conflict h.cells q) (conflict g.cells q) Nobody (conflict_alike c)
+      holder_alike c = by_asker four K q d c.level (conflict h.cells q) (conflict g.cells q) None (conflict_alike c)
 
-      pub holder_seen : Clear h q → (p : ℕ) → holder h q ≡ At p → (p < 32) × (dominates h.order k (level_of p) ≡ true)
+      pub holder_seen : Clear h q → (p : ℕ) → holder h q ≡ Some p → (p < 32) × (dominates h.order k (level_of p) ≡ true)
       holder_seen c p e =
           let w = holder_at h q p e in
           let H = w.2 in

@@ -9,7 +9,7 @@ use Rattle.house.specs.declared.Request.{Request}
 use Rattle.house.specs.Rules.{stepped}
 use Rattle.house.specs.Opening.{opening}
 use Rattle.house.specs.Run.{finally, replies, trace}
-use Rattle.house.proofs.Tests.{is}
+use Rattle.std.proofs.lemmas.Bool.{cases_Bool}
 use Rattle.reach.specs.Kept.{Kept}
 use Rattle.reach.proofs.Law.{same_order}
 use Rattle.reach.proofs.Kept.{step_keeps}
@@ -29,7 +29,7 @@ module _ (order : List ℕ) (k : ℕ) (b : k < 4) where
   unnoticed {h = h} {g = g} o K J A (q ∷ qs) =
       let K' = step_keeps h K q in
       let o' = same_order (stepped h q).house h (fixed_stays h q) ∙ o in
-      elim (is (stays order k q)) [
+      elim (cases_Bool (stays order k q)) [
         | inl d ↦
             let s = answered_alike k b h g K J A q (rw o d) in
             let r = unnoticed {h = (stepped h q).house} {g = (stepped g q).house} o' K' (step_keeps g J q) s.1 qs in

@@ -9,8 +9,7 @@ use mathlib.Core.List.{List}
 use lib.ListN.{length}
 use lib.Dec.{ltb}
 use Rattle.house.specs.declared.Answer.TheVariants.{Refused, Delayed, Ticket, Signals}
-use Rattle.house.specs.declared.Found.{Found}
-use Rattle.house.specs.declared.Found.TheVariants.{At, Nobody}
+use Rattle.std.specs.Prelude.{Option, Some, None}
 use Rattle.house.specs.declared.House.{House}
 use Rattle.house.specs.declared.Mark.{Mark}
 use Rattle.house.specs.declared.Mark.TheVariants.{Read, Write, Certify, Signalled}
@@ -22,7 +21,8 @@ use Rattle.house.specs.Cell.{marked, cell_at, with_mark, holds, first_signalled,
 use Rattle.house.specs.House.{fixed, dominates, level_of, item_at, pending_at, place_at, vacancy}
 use Rattle.house.specs.Checks.{foremost}
 use Rattle.house.specs.Rules.{begin, read, write, certify, commit, abort, ◌does◌, asker, uses_item, ticket_after, begun, read_by, read_answer, read_for, written_by, wrote, signalled_cell, signalled, converted_cell, certified_by, dropped_pending, cleared_cell, left, committed_item, committed_by, aborted_by, ask_answer, replied, served, performed, holder, refusals, named, stepped}
-use Rattle.house.proofs.Tests.{same, and_true, or_left, or_right}
+use Rattle.std.proofs.lemmas.Bool.{and_parts, or_left, or_right}
+use Rattle.house.proofs.Tests.{same}
 use Rattle.house.proofs.Searches.{scan_same}
 use Rattle.house.proofs.Cells.{cell_here, cell_elsewhere}
 use Rattle.house.proofs.Checks.{Clear, clear, item_there}
@@ -44,9 +44,9 @@ choose : (k : ℕ) (b : Bool) (x x' y y' : Outcome) → (b ≡ true → Answers 
 choose k true x x' y y' f e = f refl
 choose k false x x' y y' f e = e refl
 
-if_found_lem : (k : ℕ) (who : Found) (x x' : ℕ → Outcome) (y y' : Outcome) → ((me : ℕ) → who ≡ At me → Answers k (x me) (x' me)) → Answers k y y' → Answers k (if_found who x y) (if_found who x' y')
-if_found_lem k (At me) x x' y y' f e = f me refl
-if_found_lem k Nobody x x' y y' f e = e
+if_found_lem : (k : ℕ) (who : Option ℕ) (x x' : ℕ → Outcome) (y y' : Outcome) → ((me : ℕ) → who ≡ Some me → Answers k (x me) (x' me)) → Answers k y y' → Answers k (if_found who x y) (if_found who x' y')
+if_found_lem k (Some me) x x' y y' f e = f me refl
+if_found_lem k None x x' y y' f e = e
 
 module _ (k : ℕ) {h g : House} (L : Law h) (M : Law g) (A : Alike k h g) where
   -- one place changed, in the same way
@@ -211,16 +211,16 @@ module _ (k : ℕ) {h g : House} (L : Law h) (M : Law g) (A : Alike k h g) where
         (λ e. if_found_lem k (asker h q) _ _ _ _ (λ me f. let w = (seek_at h.places q.level q.ticket me b f).within in served_alike me w.place (rw w.level d)) (refl, A)))
 
     -- whoever holds what is asked for is at a level that k dominates, so it has one name
-    named_alike : (p : ℕ) → holder h q ≡ At p → named h p ≡ named g p
+    named_alike : (p : ℕ) → holder h q ≡ Some p → named h p ≡ named g p
     named_alike p e = let s = holder_seen k A four K J q d c p e in ap (λ x. Delayed x.ticket (level_of p)) (A.places p s.0 s.1)
 
-    free_alike : foremost (refusals h q) ≡ 0 → foremost (refusals g q) ≡ 0 → (who : Found) → holder h q ≡ who → Answers k (stepped h q) (stepped g q)
-    free_alike z z' (At p) e = rw (waits_is h q p z e, waits_is g q p z' (sym (holder_alike k A four K J q d c) ∙ e)) (ap (replied q) (named_alike p e), A)
-    free_alike z z' Nobody e = rw (free_is h q z e, free_is g q z' (sym (holder_alike k A four K J q d c) ∙ e)) performed_alike
+    free_alike : foremost (refusals h q) ≡ 0 → foremost (refusals g q) ≡ 0 → (who : Option ℕ) → holder h q ≡ who → Answers k (stepped h q) (stepped g q)
+    free_alike z z' (Some p) e = rw (waits_is h q p z e, waits_is g q p z' (sym (holder_alike k A four K J q d c) ∙ e)) (ap (replied q) (named_alike p e), A)
+    free_alike z z' None e = rw (free_is h q z e, free_is g q z' (sym (holder_alike k A four K J q d c) ∙ e)) performed_alike
 
 pub answered_alike : AnsweredAlike
 answered_alike k four h g K J A q s =
-    let d = (and_true (not (ltb 3 q.level)) _ s).1 in
+    let d = (and_parts (not (ltb 3 q.level)) _ s).1 in
     let r = refusals_alike k A four K q d in
     elim (same (foremost (refusals h q)) 0) [
       | inl z ↦ free_alike k (kept_law K) (kept_law J) A four K J q d (clear h q z) z (sym r ∙ z) (holder h q) refl

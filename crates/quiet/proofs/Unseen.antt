@@ -14,7 +14,8 @@ use Rattle.house.specs.declared.Request.{Request}
 use Rattle.house.specs.Cell.{cell_at}
 use Rattle.house.specs.House.{dominates, above, level_of, item_at, pending_at, next_at}
 use Rattle.house.specs.Rules.{commit, begun, read_by, written_by, signalled, certified_by, left, committed_by, aborted_by}
-use Rattle.house.proofs.Tests.{clash, refuted, and_true, and_intro, not_of}
+use Rattle.std.proofs.lemmas.Bool.{false_from_ne_true, and_parts, and_from, not_from_false}
+use Rattle.house.proofs.Tests.{clash}
 use Rattle.house.proofs.Levels.{dominated_low, dominates_on}
 use Rattle.house.proofs.Effects.{begun_next_other, written_pending_other}
 use Rattle.reach.specs.Kept.{Kept}
@@ -46,7 +47,7 @@ module _ {h : House} (L : Law h) where
 
   -- an item of another level I have not written
   unwritten : {me : ℕ} → me < 32 → (i : ℕ) → i < 64 → (item_at h.items i).level ≢ level_of me → held (cell_at h.cells me i) ≡ false
-  unwritten {me} m i a n = refuted _ (λ y. n ((L.cells me i m a).owned y))
+  unwritten {me} m i a n = false_from_ne_true _ (λ y. n ((L.cells me i m a).owned y))
 
   abort_spares : {me : ℕ} → me < 32 → Spares h (aborted_by h me) (level_of me)
   unfolding left
@@ -75,10 +76,10 @@ module _ {h : House} (L : Law h) where
 -- a level byte above 3 is dominated by none: the table has four rows
 struck_hidden : {h : House} → Kept h → (k : ℕ) (q : Request) → stays h.order k q ≡ false → dominates h.order k q.level ≡ false
 struck_hidden {h} K k q d =
-    refuted _
+    false_from_ne_true _
     (λ y.
     let low = dominated_low h.order K.sizes.order k q.level y in
-    clash (and_intro _ _ (not_of _ (le-ltb 3 q.level (omega arith))) y) d)
+    clash (and_from _ _ (not_from_false _ (le-ltb 3 q.level (omega arith))) y) d)
 
 pub struck_unseen : StruckUnseen
 unfolding above
@@ -96,4 +97,4 @@ struck_unseen k b h K q d =
     other l x e = clash (rw e at x) (struck_hidden K k q d)
 
     not_above : (p : ℕ) → dominates h.order k (level_of p) ≡ true → above h.order (level_of p) q.level ≡ false
-    not_above p x = refuted _ (λ y. clash (dominates_on K.order K.sizes.order k (level_of p) q.level b x (and_true (dominates h.order (level_of p) q.level) _ y).0) (struck_hidden K k q d))
+    not_above p x = false_from_ne_true _ (λ y. clash (dominates_on K.order K.sizes.order k (level_of p) q.level b x (and_parts (dominates h.order (level_of p) q.level) _ y).0) (struck_hidden K k q d))

@@ -9,7 +9,7 @@ use mathlib.Core.List.{List, [], ◌∷◌, ◌++◌, map}
 use lib.ListN.{length, take}
 use lib.Seq.{take-nil}
 use Rattle.house.specs.Opening.{opening}
-use Rattle.house.proofs.Tests.{is}
+use Rattle.std.proofs.lemmas.Bool.{cases_Bool}
 use Rattle.desk.specs.Turn.{share}
 use Rattle.maps.specs.Map.{read_of, reads, handled}
 use Rattle.maps.specs.Calls.{Call, by_turn, by_map, asked, asked_by}
@@ -42,7 +42,7 @@ struck_asks order k (by_turn input room most) s =
     let less : share most (struck_bytes order k input) room ≡ length (struck_bytes order k input) / 12 = omega arith in
     rw (all, less) (struck_ask order k input)
 struck_asks order k (by_map level ticket items room) s =
-    elim (is (covers order k level)) [
+    elim (cases_Bool (covers order k level)) [
       | inl y ↦ rw y (sym (all_stay order k level ticket y (take (handled items room) items)))
       | inr n ↦ rw (n, take-nil (handled [] room)) (sym (none_stays order k level ticket n (take (handled items room) items)))
     ]

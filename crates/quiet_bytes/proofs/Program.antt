@@ -10,8 +10,9 @@ use lib.Seq.{take_all}
 use lib.Dec.{eqb}
 use borrow.Author.Tests.{eqb-true}
 use Rattle.house.specs.declared.Rule.TheVariants.{A}
+use Rattle.house.specs.Opening.{number_of}
 use Rattle.house.specs.Run.{finally}
-use Rattle.house.proofs.Tests.{is}
+use Rattle.std.proofs.lemmas.Bool.{cases_Bool}
 use Rattle.desk.specs.Turn.{requests}
 use Rattle.dialogue.specs.Dialogue.{levels, table, header, opening_of}
 use Rattle.dialogue.specs.Pieces.{run_of, past_opening, programmed, joined}
@@ -46,8 +47,8 @@ pub over_input : OverInput
 unfolding programmed replied_to run_of of_others finally struck
 over_input k b input =
     let o = opening_of input in
-    elim (is (eqb o.number 0)) [
-      | inl z ↦ rw (struck_opening k input, z, struck_past k input (opened_there input (eqb-true o.number 0 z)), struck_ask (order_in input) k (past_opening input))
+    elim (cases_Bool (eqb (number_of o) 0)) [
+      | inl z ↦ rw (struck_opening k input, z, struck_past k input (opened_there input (eqb-true (number_of o) 0 z)), struck_ask (order_in input) k (past_opening input))
           (over_requests k b (levels input) (table input) A _)
       | inr z ↦ rw (struck_opening k input, z) (record { told = refl; afterwards = (over_requests k b (levels input) (table input) A []).afterwards })
     ]

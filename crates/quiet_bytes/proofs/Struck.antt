@@ -13,7 +13,7 @@ use Rattle.house.specs.declared.Rule.{Rule}
 use Rattle.house.specs.Rules.{stepped}
 use Rattle.house.specs.Opening.{opening}
 use Rattle.house.specs.Run.{finally, replies, trace}
-use Rattle.house.proofs.Tests.{is}
+use Rattle.std.proofs.lemmas.Bool.{cases_Bool}
 use Rattle.wire.specs.Wire.{request_at, reply_bytes}
 use Rattle.desk.specs.Turn.{requests, whole_requests, wired}
 use Rattle.desk.proofs.Laws.{requests_add}
@@ -28,7 +28,7 @@ use Rattle.quiet_bytes.specs.Struck.{of_others, struck_bytes, UnnoticedIn}
 pub struck_append : (order : List ℕ) (k : ℕ) (qs rs : List Request) → struck order k (qs ++ rs) ≡ struck order k qs ++ struck order k rs
 unfolding struck
 struck_append order k [] rs = refl
-struck_append order k (q ∷ qs) rs = elim (is (stays order k q)) [ inl y ↦ rw y (ap (λ l. q ∷ l) (struck_append order k qs rs)) | inr n ↦ rw n (struck_append order k qs rs) ]
+struck_append order k (q ∷ qs) rs = elim (cases_Bool (stays order k q)) [ inl y ↦ rw y (ap (λ l. q ∷ l) (struck_append order k qs rs)) | inr n ↦ rw n (struck_append order k qs rs) ]
 
 -- no more bytes are left than there were
 others_short : (order : List ℕ) (k w : ℕ) (qs : List Request) (b : List ℕ) → length (of_others order k w qs b) ≤ length b
@@ -37,7 +37,7 @@ others_short order k w [] b = omega arith
 others_short order k w (q ∷ qs) b =
     let rest = of_others order k w qs (drop w b) in
     let short : length rest ≤ length b - w = rw (length-drop w b) at (others_short order k w qs (drop w b)) in
-    elim (is (stays order k q)) [ inl y ↦ rw (y, length-append (take w b) rest, length-take w b) (omega arith) | inr n ↦ rw n (omega arith) ]
+    elim (cases_Bool (stays order k q)) [ inl y ↦ rw (y, length-append (take w b) rest, length-take w b) (omega arith) | inr n ↦ rw n (omega arith) ]
 
 pub struck_short : (order : List ℕ) (k : ℕ) (b : List ℕ) → length (struck_bytes order k b) ≤ length b
 unfolding struck_bytes
@@ -59,7 +59,7 @@ others_ask order k zero b e = rw e
 others_ask order k (suc n) b e =
     let rest = of_others order k 12 (requests n (drop 12 b)) (drop 12 b) in
     let less = others_ask order k n (drop 12 b) (rw (length-drop 12 b) (omega arith)) in
-    elim (is (stays order k (request_at b 0))) [ inl y ↦ rw y (first_stays b rest (omega arith) ∙ ap (λ l. request_at b 0 ∷ l) less) | inr f ↦ rw f less ]
+    elim (cases_Bool (stays order k (request_at b 0))) [ inl y ↦ rw y (first_stays b rest (omega arith) ∙ ap (λ l. request_at b 0 ∷ l) less) | inr f ↦ rw f less ]
 
 pub struck_ask : (order : List ℕ) (k : ℕ) (b : List ℕ) → whole_requests (struck_bytes order k b) ≡ struck order k (whole_requests b)
 unfolding struck_bytes
@@ -73,7 +73,7 @@ others_told order k h [] = refl
 others_told order k h (q ∷ qs) =
     let r = (stepped h q).reply in
     let less = others_told order k (stepped h q).house qs in
-    elim (is (stays order k q)) [ inl y ↦ rw y (ap (λ l. reply_bytes r ++ l) less) | inr f ↦ rw f less ]
+    elim (cases_Bool (stays order k q)) [ inl y ↦ rw y (ap (λ l. reply_bytes r ++ l) less) | inr f ↦ rw f less ]
 
 -- THE THEOREM, of requests and their replies' bytes
 

@@ -3,6 +3,7 @@
 -- Assumes nothing. Proved in proofs/Program.antt.
 use Rattle.std.specs.Prelude.{ℕ, ◌<◌, ◌≡◌, cond, List, [], ◌++◌, take, eqb}
 use Rattle.house.specs.declared.Request.{Request}
+use Rattle.house.specs.Opening.{number_of}
 use Rattle.desk.specs.Turn.{whole_requests}
 use Rattle.dialogue.specs.Dialogue.{header, opening_of, started}
 use Rattle.dialogue.specs.Pieces.{past_opening, programmed, Piece, joined, conversed, Roomy}
@@ -19,7 +20,7 @@ struck_input k input = take (header input) input ++ struck_bytes (order_in input
 
 -- the requests that get a reply. Where the opening is refused there are none: the one reply is the opening's
 unfoldable pub replied_to : List ℕ → List Request
-replied_to input = cond (eqb (opening_of input).number 0) (whole_requests (past_opening input)) []
+replied_to input = cond (eqb (number_of (opening_of input)) 0) (whole_requests (past_opening input)) []
 
 -- THE STATEMENTS, of every input, refused openings included
 

@@ -5,8 +5,7 @@ use mathlib.Core.Path.{◌≡◌, refl, sym, ap, ◌∙◌}
 use mathlib.Core.Logic.{◌≢◌, inl, inr}
 use mathlib.Core.Bool.{false}
 use borrow.Author.Tests.{ne_eqb}
-use Rattle.house.specs.declared.Found.{Found}
-use Rattle.house.specs.declared.Found.TheVariants.{At, Nobody}
+use Rattle.std.specs.Prelude.{Option, Some, None}
 use Rattle.house.specs.declared.House.{House}
 use Rattle.house.specs.declared.Outcome.{Outcome}
 use Rattle.house.specs.declared.Request.{Request}
@@ -14,7 +13,8 @@ use Rattle.house.specs.Search.{nobody}
 use Rattle.house.specs.House.{fixed, seek}
 use Rattle.house.specs.Checks.{foremost, some_applies}
 use Rattle.house.specs.Rules.{begin, asker, no_operation, no_level, unused_set, unknown, refusals, checks, verdict, stepped}
-use Rattle.house.proofs.Tests.{is, clash}
+use Rattle.std.proofs.lemmas.Bool.{cases_Bool}
+use Rattle.house.proofs.Tests.{clash}
 use Rattle.house.proofs.Places.{zero_nowhere}
 use Rattle.house.proofs.Checks.{none_applies, none_given, first_given, level_there, clear, passes, asker_known, foremost_stands}
 use Rattle.house.proofs.Steps.{unserved_is, done_is}
@@ -35,7 +35,7 @@ pub done_exactly : DoneExactly
 unfolding verdict checks refusals
 done_exactly h q = (
   rw (number h q)
-      (elim (is (some_applies (checks h q))) [
+      (elim (cases_Bool (some_applies (checks h q))) [
         | inl y ↦ rw y (ne_eqb (foremost (checks h q)) 0 (λ e. clash y (none_applies (checks h q) refl e)))
         | inr y ↦ rw (y, none_given (checks h q) y)
       ]),
@@ -80,11 +80,11 @@ turned_down h q n none = let u : (stepped h q).reply.number ≢ 0 = λ e. let k 
 stranger_elsewhere : (h : House) (q : Request) → Stranger h q → (me : ℕ) → Asker h q me → ⊥
 stranger_elsewhere h q s me A = let k = A.seated in s me k.within.place k.within.level k.taken k.ticket
 
-stranger_nobody : (h : House) (q : Request) → no_level q ≡ false → Stranger h q → (who : Found) → asker h q ≡ who → who ≡ Nobody
-stranger_nobody h q l s Nobody e = refl
-stranger_nobody h q l s (At p) e = absurd (stranger_elsewhere h q s p (found (level_there q l) e))
+stranger_nobody : (h : House) (q : Request) → no_level q ≡ false → Stranger h q → (who : Option ℕ) → asker h q ≡ who → who ≡ None
+stranger_nobody h q l s None e = refl
+stranger_nobody h q l s (Some p) e = absurd (stranger_elsewhere h q s p (found (level_there q l) e))
 
-zero_nobody : (h : House) (q : Request) → q.ticket ≡ 0 → asker h q ≡ Nobody
+zero_nobody : (h : House) (q : Request) → q.ticket ≡ 0 → asker h q ≡ None
 unfolding seek
 zero_nobody h q z = rw z (zero_nowhere h.places _ _ _)
 
@@ -95,7 +95,7 @@ pub zero_refused : ZeroRefused
 zero_refused h q n z = turned_down h q n (λ me A. clash (ap nobody (zero_nobody h q z)) (ap nobody A.at))
 
 -- which number that is
-nobody_gets_six : (h : House) (q : Request) → no_operation q ≡ false → no_level q ≡ false → unused_set q ≡ false → q.operation ≢ begin → asker h q ≡ Nobody → (stepped h q).reply.number ≡ 6
+nobody_gets_six : (h : House) (q : Request) → no_operation q ≡ false → no_level q ≡ false → unused_set q ≡ false → q.operation ≢ begin → asker h q ≡ None → (stepped h q).reply.number ≡ 6
 unfolding verdict checks refusals unknown
 nobody_gets_six h q o l u n none = number h q ∙ rw (o, l, u, ne_eqb q.operation 0 n, none)
 

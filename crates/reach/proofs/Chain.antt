@@ -9,8 +9,7 @@ use mathlib.Core.List.{List, [], ◌∷◌}
 use lib.Dec.{eqb, ltb}
 use borrow.Author.Tests.{eq-eqb, ne_eqb, eqb-true, eqb-false, ltb-true, ltb-false, lt-ltb, le-ltb}
 use Rattle.house.specs.declared.Answer.TheVariants.{Refused, Ticket}
-use Rattle.house.specs.declared.Found.{Found}
-use Rattle.house.specs.declared.Found.TheVariants.{At, Nobody}
+use Rattle.std.specs.Prelude.{Option, Some, None}
 use Rattle.house.specs.declared.House.{House}
 use Rattle.house.specs.declared.Mark.TheVariants.{Write, Certify}
 use Rattle.house.specs.declared.Outcome.{Outcome}
@@ -26,8 +25,11 @@ use Rattle.house.specs.Rules.{begin, read, write, certify, commit, abort, ◌doe
 use Rattle.house.specs.Opening.{wrong_length, wrong_table, open_verdict, opened, opening}
 use Rattle.house.specs.Run.{finally, replies}
 use Rattle.house.proofs.Unfolding.{tests}
-use Rattle.house.proofs.Tests.{is, same, clash, refuted, or_false, or_none}
+use Rattle.std.proofs.lemmas.Bool.{cases_Bool, false_from_ne_true, or_parts}
+use Rattle.std.proofs.Math.Bool.{or-false}
+use Rattle.house.proofs.Tests.{same, clash}
 use Rattle.house.proofs.Searches.{any_none}
+use Rattle.house.proofs.Openings.{opening_number}
 use Rattle.house.proofs.Levels.{dominated_low, undisordered, old_chain_long, old_chain_ordered}
 use Rattle.house.proofs.Checks.{level_there, clear, passes, asker_known}
 use Rattle.house.proofs.Cells.{cell_mapped, length_map_cells, cells_same}
@@ -70,18 +72,18 @@ entry a b x y =
     let n = 4 * b + a in
     let p : n / 4 ≡ b = omega arith in
     let r : n % 4 ≡ a = omega arith in
-    let k = or_false (differ (not (dominates old_chain a b)) (ltb a b)) _ (rw (p, r) at (any_none new_at 0 16 none_new n (omega arith) (omega arith))) in
+    let k = or_parts (differ (not (dominates old_chain a b)) (ltb a b)) _ (rw (p, r) at (any_none new_at 0 16 none_new n (omega arith) (omega arith))) in
     (agree _ _ k.0, agree _ _ k.1)
 
 -- past them nothing is dominated, and every number is larger
 chain_is : (a b : ℕ) → a < 4 → (not (dominates old_chain a b) ≡ ltb a b) × (above old_chain a b ≡ ltb b a)
 unfolding above
 chain_is a b x =
-    elim (is (ltb b 4)) [
+    elim (cases_Bool (ltb b 4)) [
       | inl y ↦ entry a b x (ltb-true b 4 y)
       | inr y ↦
           let n : 4 ≤ b = ltb-false b 4 y in
-          let none : dominates old_chain a b ≡ false = refuted _ (λ d. omega (arith, dominated_low old_chain old_chain_long a b d)) in
+          let none : dominates old_chain a b ≡ false = false_from_ne_true _ (λ d. omega (arith, dominated_low old_chain old_chain_long a b d)) in
           (rw none (sym (lt-ltb a b (omega arith))), rw none (sym (le-ltb b a (omega arith))))
     ]
 
@@ -97,8 +99,8 @@ module _ (h : House) (o : h.order ≡ old_chain) (r : h.rule ≡ A) where
   unfolding old_certified_cell converted_cell signalled_cell wrote holds
   cell_old me p i b none =
       let c = cell_at h.cells p i in
-      rw (o, (chain_is (level_of p) (level_of me) (omega arith)).1, none, or_none (has Write (cell_at h.cells me i)))
-      (elim (is (has Write (cell_at h.cells me i))) [
+      rw (o, (chain_is (level_of p) (level_of me) (omega arith)).1, none, or-false (has Write (cell_at h.cells me i)))
+      (elim (cases_Bool (has Write (cell_at h.cells me i))) [
         | inl w ↦ elim (same p me) [ inl e ↦ rw (e, w, eq-eqb me me refl, le-ltb (level_of me) (level_of me) (omega arith)) (rw w) | inr n ↦ rw (w, ne_eqb p me n) ]
         | inr w ↦ elim (same p me) [ inl e ↦ rw (e, w, eq-eqb me me refl) (rw w) | inr n ↦ rw (w, ne_eqb p me n) ]
       ])
@@ -121,24 +123,24 @@ module _ (h : House) (o : h.order ≡ old_chain) (r : h.rule ≡ A) where
   -- a level above 3 is refused before its items are looked at
   verdict_old : (q : Request) → old_verdict h q ≡ verdict h q
   unfolding old_verdict verdict checks refusals
-  verdict_old q = elim (is (no_level q)) [ inl y ↦ rw y | inr y ↦ rw (forbidden_old q (level_there q y)) ]
+  verdict_old q = elim (cases_Bool (no_level q)) [ inl y ↦ rw y | inr y ↦ rw (forbidden_old q (level_there q y)) ]
 
   module _ (K : Kept h) (q : Request) (z : foremost (refusals h q) ≡ 0) where
-    served_old : (me : ℕ) → asker h q ≡ At me → old_served h q me ≡ served h q me
+    served_old : (me : ℕ) → asker h q ≡ Some me → old_served h q me ≡ served h q me
     unfolding old_served served untimely
     served_old me at =
-        elim (is (q does certify)) [
+        elim (cases_Bool (q does certify)) [
           | inl y ↦
               let c : q.operation ≡ certify = eqb-true _ certify y in
               let m = (found {h = h} {q = q} (clear h q z).level at).seated.within.place in
-              rw (c, certified_old K me (λ i a. refuted _ (λ e. clash (K.certifying me i m a e) (rw (c, at) at (clear h q z).timely))))
-          | inr y ↦ rw y (elim (is (q does commit)) [ inl w ↦ rw (eqb-true q.operation commit w, committed_old K me) | inr w ↦ rw w ])
+              rw (c, certified_old K me (λ i a. false_from_ne_true _ (λ e. clash (K.certifying me i m a e) (rw (c, at) at (clear h q z).timely))))
+          | inr y ↦ rw y (elim (cases_Bool (q does commit)) [ inl w ↦ rw (eqb-true q.operation commit w, committed_old K me) | inr w ↦ rw w ])
         ]
 
     performed_old : old_performed h q ≡ performed h q
     unfolding old_performed performed
     performed_old =
-        elim (is (q does begin)) [
+        elim (cases_Bool (q does begin)) [
           | inl y ↦ rw y
           | inr y ↦ let who = asker_known h q (eqb-false _ begin y) z in rw (y, who.1) (served_old who.0 who.1)
         ]
@@ -150,8 +152,8 @@ module _ (h : House) (o : h.order ≡ old_chain) (r : h.rule ≡ A) where
       (elim (same (verdict h q) 0) [ inl z ↦ rw (z, performed_old K q (passes h q z).0) | inr n ↦ rw (ne_eqb (verdict h q) 0 n) ])
 
 pub old_opening : OldOpening
-unfolding opening open_verdict wrong_table
-old_opening levels = rw (old_chain_long, or_none (wrong_length levels), undisordered old_chain old_chain_ordered)
+unfolding open_verdict wrong_table
+old_opening levels = rw (opening_number levels old_chain A, old_chain_long, or-false (wrong_length levels), undisordered old_chain old_chain_ordered)
 
 -- every opening with the chain's table under rule A yields a house that has them
 opening_old : (levels : List ℕ) → let h = (opening levels old_chain A).house in (h.order ≡ old_chain) × (h.rule ≡ A)
@@ -176,9 +178,9 @@ module _ (order : List ℕ) (rule : Rule) where
   by_cond true x y = refl
   by_cond false x y = refl
 
-  by_found : (who : Found) (f : ℕ → Outcome) (y : Outcome) → if_found who (λ me. Other (f me)) (Other y) ≡ Other (if_found who f y)
-  by_found (At me) f y = refl
-  by_found Nobody f y = refl
+  by_found : (who : Option ℕ) (f : ℕ → Outcome) (y : Outcome) → if_found who (λ me. Other (f me)) (Other y) ≡ Other (if_found who f y)
+  by_found (Some me) f y = refl
+  by_found None f y = refl
 
   module _ (h : House) (q : Request) where
     verdict_same : old_verdict (with_terms h order rule) q ≡ old_verdict h q
@@ -190,33 +192,33 @@ module _ (order : List ℕ) (rule : Rule) where
     unfolding served read_by read_answer written_by left ask_answer
     served_same c w me =
         rw (c, w)
-        (elim (is (q does read)) [
+        (elim (cases_Bool (q does read)) [
           | inl y ↦ rw y
-          | inr y ↦ elim (is (q does write)) [
+          | inr y ↦ elim (cases_Bool (q does write)) [
             | inl z ↦ rw (y, z)
-            | inr z ↦ elim (is (q does abort)) [ inl x ↦ rw (y, z, x) | inr x ↦ rw (y, z, x) ]
+            | inr z ↦ elim (cases_Bool (q does abort)) [ inl x ↦ rw (y, z, x) | inr x ↦ rw (y, z, x) ]
           ]
         ])
 
     old_same : (me : ℕ) → old_served (with_terms h order rule) q me ≡ Other (old_served h q me)
     unfolding old_served old_certified_by old_committed_by left
     old_same me =
-        elim (is (q does certify)) [
+        elim (cases_Bool (q does certify)) [
           | inl c ↦ rw c
-          | inr c ↦ rw c (elim (is (q does commit)) [ inl w ↦ rw w | inr w ↦ rw w (served_same c w me) ])
+          | inr c ↦ rw c (elim (cases_Bool (q does commit)) [ inl w ↦ rw w | inr w ↦ rw w (served_same c w me) ])
         ]
 
     performed_same : old_performed (with_terms h order rule) q ≡ Other (old_performed h q)
     unfolding old_performed performed begun
     performed_same =
-        elim (is (q does begin)) [
+        elim (cases_Bool (q does begin)) [
           | inl y ↦ rw y (by_found (vacancy h.places q.level) (λ me. outcome (begun h q.level me) q (Ticket (next_at h.next q.level))) (outcome h q (Refused 11)))
           | inr y ↦ rw y (served_by (asker h q))
         ]
       where
-        served_by : (who : Found) → if_found who (old_served (with_terms h order rule) q) (outcome (with_terms h order rule) q (Refused 6)) ≡ Other (if_found who (old_served h q) (outcome h q (Refused 6)))
-        served_by (At me) = old_same me
-        served_by Nobody = refl
+        served_by : (who : Option ℕ) → if_found who (old_served (with_terms h order rule) q) (outcome (with_terms h order rule) q (Refused 6)) ≡ Other (if_found who (old_served h q) (outcome h q (Refused 6)))
+        served_by (Some me) = old_same me
+        served_by None = refl
 
 pub old_looks_at_none : OldLooksAtNone
 unfolding old_stepped unserved

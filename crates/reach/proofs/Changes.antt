@@ -18,7 +18,8 @@ use Rattle.house.specs.declared.Standing.TheVariants.{Active}
 use Rattle.house.specs.Cell.{has, marked, unmarked, cell_at, holds}
 use Rattle.house.specs.House.{fixed, Sizes, above, level_of, item_at, pending_at, place_at, next_at, is_free}
 use Rattle.house.specs.Rules.{certify, commit, ticket_after, begun, read_by, written_by, wrote, signals_at, signalled_cell, signalled, converted_cell, certified_by, dropped_pending, cleared_cell, left, committed_item, committed_by, aborted_by}
-use Rattle.house.proofs.Tests.{is, same, clash, refuted, and_true, or_left, or_right}
+use Rattle.std.proofs.lemmas.Bool.{cases_Bool, false_from_ne_true, and_parts, or_left, or_right}
+use Rattle.house.proofs.Tests.{same, clash}
 use Rattle.house.proofs.Levels.{above_itself, above_intro}
 use Rattle.house.proofs.Cells.{alike, has_marked, has_unmarked, has_with_mark}
 use Rattle.house.proofs.Effects.{begun_sizes, begun_place, begun_next, read_sizes, written_sizes, signalled_long, signalled_cell_lem, certified_sizes, certified_place, certified_cell, left_sizes, left_pending, left_place, left_cell, committed_sizes, committed_item_lem, begun_place_other, begun_next_other, read_cell_other, written_cell_other, written_pending_other, certified_place_other, left_place_other, begun_fixed, read_fixed, written_fixed, certified_fixed, committed_fixed}
@@ -28,14 +29,14 @@ use Rattle.reach.proofs.Turns.{MayBegin, MayRead, MayWrite, MayCertify}
 
 -- an active transaction has no certify lock
 pub uncertified : {h : House} {me : ℕ} → Law h → me < 32 → (place_at h.places me).standing ≡ Active → (i : ℕ) → i < 64 → has Certify (cell_at h.cells me i) ≡ false
-uncertified {h} {me} L m active i a = refuted _ (λ e. clash ((L.cells me i m a).certifying e) (rw active))
+uncertified {h} {me} L m active i a = false_from_ne_true _ (λ e. clash ((L.cells me i m a).certifying e) (rw active))
 
 -- BEGIN
 
 -- the ticket after n is the next larger, or there is none
 pub after_cases : (n : ℕ) → (ticket_after n ≡ n + 1) ⊎ (ticket_after n ≡ 0)
 unfolding ticket_after
-after_cases n = elim (is (ltb n 4294967295)) [ inl e ↦ inl (rw e) | inr e ↦ inr (rw e) ]
+after_cases n = elim (cases_Bool (ltb n 4294967295)) [ inl e ↦ inl (rw e) | inr e ↦ inr (rw e) ]
 
 module _ {h : House} {l me : ℕ} (L : Law h) (K : MayBegin h l me) where
   pub begin_clear : (i : ℕ) → i < 64 → cell_at (begun h l me).cells me i ≡ 0
@@ -229,11 +230,11 @@ module _ {h : House} (z : Sizes h) (n me p i : ℕ) (b : p < 32) (a : i < 64) wh
       let mine = gives && wrote h.cells me i in
       let up = above h.order (level_of p) (level_of me) in
       let same = signalled_cell_lem z n me p i b a in
-      elim (is (mine && up && has Read (cell_at h.cells p i))) [
+      elim (cases_Bool (mine && up && has Read (cell_at h.cells p i))) [
         | inl y ↦
-            let k = and_true (mine && up) _ y in
-            let l = and_true mine up k.0 in
-            let g = and_true gives _ l.0 in
+            let k = and_parts (mine && up) _ y in
+            let l = and_parts mine up k.0 in
+            let g = and_parts gives _ l.0 in
             inr (record { gives = g.0; wrote = g.1; higher = l.1; read = k.1 }, same ∙ rw y)
         | inr y ↦ inl (same ∙ rw y)
       ]
@@ -283,26 +284,26 @@ module _ {h : House} {me : ℕ} (L : Law h) (K : MayCertify h me) where
   certify_mine n i a =
       let c = cell_at h.cells me i in
       rw (certify_converts L.sizes me i K.place a)
-      (elim (is (has Write c)) [ inl w ↦ rw (w, has_marked n Certify (unmarked Write c), has_unmarked n Write c) | inr w ↦ rw w ])
+      (elim (cases_Bool (has Write c)) [ inl w ↦ rw (w, has_marked n Certify (unmarked Write c), has_unmarked n Write c) | inr w ↦ rw w ])
 
   pub certify_held : (i : ℕ) → i < 64 → held (cell_at (certified_by h me).cells me i) ≡ held (cell_at h.cells me i)
   unfolding held
-  certify_held i a = rw (certify_mine Write i a, certify_mine Certify i a) (elim (is (has Write (cell_at h.cells me i))) [ inl w ↦ rw w | inr w ↦ rw w ])
+  certify_held i a = rw (certify_mine Write i a, certify_mine Certify i a) (elim (cases_Bool (has Write (cell_at h.cells me i))) [ inl w ↦ rw w | inr w ↦ rw w ])
 
   pub certify_read : (i : ℕ) → i < 64 → has Read (cell_at (certified_by h me).cells me i) ≡ has Read (cell_at h.cells me i)
-  certify_read i a = rw (certify_mine Read i a) (elim (is (has Write (cell_at h.cells me i))) [ inl w ↦ rw w | inr w ↦ rw w ])
+  certify_read i a = rw (certify_mine Read i a) (elim (cases_Bool (has Write (cell_at h.cells me i))) [ inl w ↦ rw w | inr w ↦ rw w ])
 
   pub certify_signalled : (i : ℕ) → i < 64 → has Signalled (cell_at (certified_by h me).cells me i) ≡ has Signalled (cell_at h.cells me i)
-  certify_signalled i a = rw (certify_mine Signalled i a) (elim (is (has Write (cell_at h.cells me i))) [ inl w ↦ rw w | inr w ↦ rw w ])
+  certify_signalled i a = rw (certify_mine Signalled i a) (elim (cases_Bool (has Write (cell_at h.cells me i))) [ inl w ↦ rw w | inr w ↦ rw w ])
 
   certify_writes : (i : ℕ) → i < 64 → has Write (cell_at (certified_by h me).cells me i) ≡ false
-  certify_writes i a = rw (certify_mine Write i a) (elim (is (has Write (cell_at h.cells me i))) [ inl w ↦ rw w | inr w ↦ rw w ])
+  certify_writes i a = rw (certify_mine Write i a) (elim (cases_Bool (has Write (cell_at h.cells me i))) [ inl w ↦ rw w | inr w ↦ rw w ])
 
   -- what I have certified, I had written
   certify_certifies : (i : ℕ) → i < 64 → has Certify (cell_at (certified_by h me).cells me i) ≡ has Write (cell_at h.cells me i)
   certify_certifies i a =
       rw (certify_mine Certify i a)
-      (elim (is (has Write (cell_at h.cells me i))) [ inl w ↦ rw w | inr w ↦ rw w (uncertified L K.place K.active i a) ])
+      (elim (cases_Bool (has Write (cell_at h.cells me i))) [ inl w ↦ rw w | inr w ↦ rw w (uncertified L K.place K.active i a) ])
 
   -- a reader of what I wrote, at another place, is above me: the read rule puts it at my level or above, and my peers have no
   -- read lock
@@ -410,7 +411,7 @@ module _ {h : House} {me : ℕ} (L : Law h) (m : me < 32) where
 
   -- so the row of a read that is not signalled stays
   read_row : (p i : ℕ) → p < 32 → i < 64 → p ≢ me → has Read (cell_at h.cells p i) ≡ true → has Signalled (cell_at (signalled commit h me) p i) ≡ false → item_at (committed_by h me).items i ≡ item_at h.items i
-  read_row p i b a n r s = elim (is (has Certify (cell_at h.cells me i))) [ inl c ↦ clash (commit_signals p i b a n c r) s | inr c ↦ committed_row i a c ]
+  read_row p i b a n r s = elim (cases_Bool (has Certify (cell_at h.cells me i))) [ inl c ↦ clash (commit_signals p i b a n c r) s | inr c ↦ committed_row i a c ]
 
   pub commit_frame : Frame h (committed_by h me) me
   unfolding Issued

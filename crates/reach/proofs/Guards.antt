@@ -8,8 +8,7 @@ use mathlib.Core.Bool.{◌&&◌, ◌||◌}
 use lib.Dec.{eqb, leb}
 use borrow.Author.Tests.{eq-eqb, eqb-true, leb-false, lt-leb, lt-ltb, not-true}
 use Rattle.house.specs.declared.Answer.TheVariants.{Refused}
-use Rattle.house.specs.declared.Found.{Found}
-use Rattle.house.specs.declared.Found.TheVariants.{At, Nobody}
+use Rattle.std.specs.Prelude.{Option, Some, None}
 use Rattle.house.specs.declared.House.{House}
 use Rattle.house.specs.declared.Mark.TheVariants.{Write}
 use Rattle.house.specs.declared.Outcome.{Outcome}
@@ -18,7 +17,8 @@ use Rattle.house.specs.Search.{if_found}
 use Rattle.house.specs.Cell.{holds}
 use Rattle.house.specs.Checks.{foremost}
 use Rattle.house.specs.Rules.{uses_item, no_item, holder, delayed, refusals, checks, verdict, grown, read_answer, read_for, ask_answer, replied, named, unserved, stepped}
-use Rattle.house.proofs.Tests.{is, same, clash, and_true}
+use Rattle.std.proofs.lemmas.Bool.{cases_Bool, and_parts}
+use Rattle.house.proofs.Tests.{same, clash}
 use Rattle.house.proofs.Checks.{given_last, passes, somebody}
 use Rattle.house.proofs.Steps.{first_refused, unserved_is, waits_is}
 use Rattle.reach.specs.Kept.{Kept}
@@ -32,7 +32,7 @@ grown_room v b = rw (lt-ltb v 4294967295 b)
 
 -- a number below the count is below 64
 within : (n i : ℕ) → n ≤ 64 → (leb n i || leb 64 i) ≡ leb n i
-within n i b = elim (is (leb n i)) [ inl e ↦ rw e | inr e ↦ rw e (lt-leb 64 i (omega (arith, leb-false n i e))) ]
+within n i b = elim (cases_Bool (leb n i)) [ inl e ↦ rw e | inr e ↦ rw e (lt-leb 64 i (omega (arith, leb-false n i e))) ]
 
 item_counted : (h : House) → h.count ≤ 64 → (q : Request) → no_item h q ≡ (uses_item q && leb h.count q.item)
 unfolding no_item
@@ -41,7 +41,7 @@ item_counted h b q = rw (within h.count q.item b)
 -- a read is done whichever pair it gives
 pub read_number : (h : House) (q : Request) (me i : ℕ) → (replied q (read_for h me i)).number ≡ 0
 unfolding read_answer
-read_number h q me i = elim (is (holds h.cells Write me i)) [ inl w ↦ rw w | inr w ↦ rw w ]
+read_number h q me i = elim (cases_Bool (holds h.cells Write me i)) [ inl w ↦ rw w | inr w ↦ rw w ]
 
 done_number : {h : House} {q : Request} {o : Outcome} → verdict h q ≡ 0 → Turn h q o → o.reply.number ≡ 0
 unfolding delayed ask_answer
@@ -57,11 +57,11 @@ done_number v (asks me o A) = refl
 
 unserved_number : (h : House) (q : Request) (n : ℕ) → (replied q (unserved h q n)).number ≡ n
 unfolding unserved
-unserved_number h q n = elim (is (eqb n 1)) [ inl y ↦ rw y (delayed_number (holder h q) (eqb-true n 1 y)) | inr y ↦ rw y ]
+unserved_number h q n = elim (cases_Bool (eqb n 1)) [ inl y ↦ rw y (delayed_number (holder h q) (eqb-true n 1 y)) | inr y ↦ rw y ]
   where
-    delayed_number : (who : Found) → n ≡ 1 → (replied q (if_found who (named h) (Refused n))).number ≡ n
-    delayed_number (At p) e = sym e
-    delayed_number Nobody e = refl
+    delayed_number : (who : Option ℕ) → n ≡ 1 → (replied q (if_found who (named h) (Refused n))).number ≡ n
+    delayed_number (Some p) e = sym e
+    delayed_number None e = refl
 
 pub number : PlaceGuardRests
 number h q = elim (same (verdict h q) 0) [ inl v ↦ done_number v (turn h q) ∙ sym v | inr n ↦ rw (unserved_is h q _ refl n) (unserved_number h q _) ]
@@ -72,10 +72,10 @@ unfolding verdict checks refusals
 delay_given h q = rw (number h q) (given_last (refusals h q) 1 (delayed h q) (λ e. omega arith) refl refl)
 
 -- so there is a holder
-pub delay_held : (h : House) (q : Request) → (stepped h q).reply.number ≡ 1 → (foremost (refusals h q) ≡ 0) × (p : ℕ) × (holder h q ≡ At p)
+pub delay_held : (h : House) (q : Request) → (stepped h q).reply.number ≡ 1 → (foremost (refusals h q) ≡ 0) × (p : ℕ) × (holder h q ≡ Some p)
 unfolding delayed
 delay_held h q e =
-    let k = and_true (eqb (foremost (refusals h q)) 0) (delayed h q) (sym (delay_given h q) ∙ eq-eqb _ 1 e) in
+    let k = and_parts (eqb (foremost (refusals h q)) 0) (delayed h q) (sym (delay_given h q) ∙ eq-eqb _ 1 e) in
     let s = somebody (holder h q) (not-true _ k.1) in
     (eqb-true _ 0 k.0, s.0, s.1)
 

@@ -9,7 +9,7 @@ use mathlib.Core.Bool.{true, false, not}
 use mathlib.Core.List.{List}
 use lib.Dec.{eqb}
 use borrow.Author.Tests.{eqb-true, eqb-false, not-true}
-use Rattle.house.specs.declared.Found.TheVariants.{At}
+use Rattle.std.specs.Prelude.{Some}
 use Rattle.house.specs.declared.House.{House}
 use Rattle.house.specs.declared.Mark.TheVariants.{Read, Write, Certify}
 use Rattle.house.specs.declared.Request.{Request}
@@ -17,7 +17,8 @@ use Rattle.house.specs.Matrix.{Lock}
 use Rattle.house.specs.House.{dominates, level_of}
 use Rattle.house.specs.Checks.{foremost}
 use Rattle.house.specs.Rules.{read, write, certify, ◌does◌, uses_item, peer_reads, hinders, wants, holder, refusals}
-use Rattle.house.proofs.Tests.{is, clash, refuted, and_true, or_false}
+use Rattle.std.proofs.lemmas.Bool.{cases_Bool, false_from_ne_true, and_parts, or_parts}
+use Rattle.house.proofs.Tests.{clash}
 use Rattle.house.proofs.Checks.{Clear, clear, allowed_below}
 use Rattle.house.proofs.Steps.{waits_is}
 use Rattle.house.proofs.Holders.{Hindered, hinders_claims, holder_at}
@@ -41,11 +42,11 @@ module _ {h : House} (L : Law h) (q : Request) (itself : dominates h.order q.lev
   holder_below : (p i : ℕ) → p < 32 → i < 64 → wants h.cells q me i ≡ true → hinders h.cells q.operation me i p ≡ true → dominates h.order q.level (level_of p) ≡ true
   unfolding hinders wants peer_reads
   holder_below p i b a w y =
-      elim (is (uses_item q)) [
+      elim (cases_Bool (uses_item q)) [
         | inl u ↦ claimed_below L q.level me p i b a (rw (eqb-true i q.item (rw u at w)) (allowed_below h q itself u U.allowed)) (hinders_claims h.cells q me i p u y)
         | inr n ↦
-            let none = or_false (q does read) (q does write) n in
-            let l : level_of p ≡ level_of me = eqb-true _ _ (and_true (eqb (level_of p) (level_of me)) _ (rw (none.0, none.1) at y)).0 in
+            let none = or_parts (q does read) (q does write) n in
+            let l : level_of p ≡ level_of me = eqb-true _ _ (and_parts (eqb (level_of p) (level_of me)) _ (rw (none.0, none.1) at y)).0 in
             rw (l, A.seated.within.level) itself
       ]
 
@@ -54,14 +55,14 @@ module _ {h : House} (L : Law h) (q : Request) (itself : dominates h.order q.lev
   holds p H =
       let at = hinders_refused L q me A.seated.within.place in
       let y = sym (at H.item p H.row H.place H.wanted) ∙ H.by in
-      let k = and_true (not (eqb p me)) _ y in
+      let k = and_parts (not (eqb p me)) _ y in
       record {
         place = H.place;
         me = me;
         item = H.item;
         asking = A.at;
         row = H.row;
-        stands = refuted _ (λ f. clash k.1 (clear_grants _ _ _ _ _ ((L.cells p H.item H.place H.row).idle f)));
+        stands = false_from_ne_true _ (λ f. clash k.1 (clear_grants _ _ _ _ _ ((L.cells p H.item H.place H.row).idle f)));
         other = eqb-false p me (not-true _ k.0);
         wanted = H.wanted;
         refused = y;
@@ -70,7 +71,7 @@ module _ {h : House} (L : Law h) (q : Request) (itself : dominates h.order q.lev
       }
 
 -- whom the rules find holds it
-pub held_by : {h : House} → Kept h → (q : Request) → foremost (refusals h q) ≡ 0 → (p : ℕ) → holder h q ≡ At p → Holds h q p
+pub held_by : {h : House} → Kept h → (q : Request) → foremost (refusals h q) ≡ 0 → (p : ℕ) → holder h q ≡ Some p → Holds h q p
 held_by {h} K q z p e =
     let U = clear h q z in
     let w = holder_at h q p e in
@@ -89,7 +90,7 @@ holder_named h R q e =
 -- whoever hinders a certify reads at the asker's level
 hinders_peer : (cells : List ℕ) (operation me i p : ℕ) → operation ≡ certify → hinders cells operation me i p ≡ true → level_of p ≡ level_of me
 unfolding hinders peer_reads
-hinders_peer cells operation me i p o y = eqb-true _ _ (and_true (eqb (level_of p) (level_of me)) _ (rw o at y)).0
+hinders_peer cells operation me i p o y = eqb-true _ _ (and_parts (eqb (level_of p) (level_of me)) _ (rw o at y)).0
 
 pub waits_for_peers : WaitsForPeers
 waits_for_peers h q o e =

@@ -18,7 +18,8 @@ use Rattle.house.specs.House.{blank, item_at, pending_at, place_at, next_at, is_
 use Rattle.house.specs.Order.{PartialOrder}
 use Rattle.house.specs.Rules.{commit, ticket_after, begun, read_by, written_by, wrote, signalled, certified_by, left, committed_by, aborted_by, stepped}
 use Rattle.house.specs.Run.{finally}
-use Rattle.house.proofs.Tests.{is, same, clash}
+use Rattle.std.proofs.lemmas.Bool.{cases_Bool}
+use Rattle.house.proofs.Tests.{same, clash}
 use Rattle.house.proofs.Effects.{begun_place, begun_next, signalled_long, certified_place, left_place, begun_next_other, read_cell_other, written_cell_other, written_pending, written_pending_other}
 use Rattle.reach.specs.Kept.{Open, Kept, StepKeeps}
 use Rattle.reach.proofs.Law.{held, Law, Frame, Own, clear_has, clear_held, same_count, same_order, same_level, held_kept, lawful}
@@ -146,7 +147,7 @@ tidied {h} {h'} {me} L F m T N =
 module _ {h : House} {l me : ℕ} (L : Law h) (T : Tidy h) (K : MayBegin h l me) where
   after_small : (t : ℕ) → ticket_after t ≤ 4294967295
   unfolding ticket_after
-  after_small t = elim (is (ltb t 4294967295)) [ inl e ↦ rw e (omega (arith, ltb-true t 4294967295 e)) | inr e ↦ rw e (omega arith) ]
+  after_small t = elim (cases_Bool (ltb t 4294967295)) [ inl e ↦ rw e (omega (arith, ltb-true t 4294967295 e)) | inr e ↦ rw e (omega arith) ]
 
   begin_neat : Neat h (begun h l me) me
   unfolding begun
@@ -227,7 +228,7 @@ module _ {h : House} {me : ℕ} (L : Law h) (T : Tidy h) (m : me < 32) where
       let z = L.sizes in
       record {
         rows = λ i a c. refl;
-        pending = λ i a g. elim (is (held (cell_at h.cells me i))) [ inl y ↦ inl (left_dropped z cells me i a y) | inr y ↦ inr (y, left_stays z cells me i a y) ];
+        pending = λ i a g. elim (cases_Bool (held (cell_at h.cells me i))) [ inl y ↦ inl (left_dropped z cells me i a y) | inr y ↦ inr (y, left_stays z cells me i a y) ];
         drawn = λ i a w. clash w (clear_held _ (left_mine z cells me long i m a));
         ticketless = λ e. rw (left_place z cells me m);
         named = λ o. clash (freed z cells me m) o;

@@ -19,7 +19,8 @@ use Rattle.house.specs.House.{fixed, Sizes, dominates, above, level_of, blank, i
 use Rattle.house.specs.Rules.{another_claims}
 use Rattle.reach.specs.Kept.{Open, Issued}
 use Rattle.house.proofs.Holders.{another_marked}
-use Rattle.house.proofs.Tests.{same, clash, refuted, or_left, or_right, or_elim, or_false}
+use Rattle.std.proofs.lemmas.Bool.{false_from_ne_true, or_left, or_right, or_parts}
+use Rattle.house.proofs.Tests.{same, clash, or_elim}
 
 -- the cell says that its item is written: with the write lock or, once certified, with the certify lock
 unfoldable pub held : ℕ → Bool
@@ -35,7 +36,7 @@ held_certify c e = or_right (has Write c) (has Certify c) e
 
 pub held_neither : (c : ℕ) → held c ≡ false → (has Write c ≡ false) × (has Certify c ≡ false)
 unfolding held
-held_neither c e = or_false (has Write c) (has Certify c) e
+held_neither c e = or_parts (has Write c) (has Certify c) e
 
 -- the cell c of an item with level x and version v, and of a place with level l and standing s, in such an order of the levels
 pub record CellLaw (order : List ℕ) (x v l : ℕ) (s : Standing) (c : ℕ) : Type 0 where
@@ -108,7 +109,7 @@ claimed_below {h} L l me p i b a d y =
 
 -- what one has written, no other has
 pub unheld : {h : House} → Law h → (p q i : ℕ) → p < 32 → q < 32 → i < 64 → p ≢ q → held (cell_at h.cells q i) ≡ true → held (cell_at h.cells p i) ≡ false
-unheld {h} L p q i b c a n y = refuted _ (λ x. n (L.sole p q i b c a x y))
+unheld {h} L p q i b c a n y = false_from_ne_true _ (λ x. n (L.sole p q i b c a x y))
 
 -- A CHANGE by the transaction at `me`. What an opening fixed stays, and is spoken of as it is in the house before
 

@@ -16,11 +16,12 @@ use Rattle.house.specs.House.{place_at, is_free}
 use Rattle.house.specs.Checks.{foremost}
 use Rattle.house.specs.Order.{PartialOrder, disordered, old_chain}
 use Rattle.house.specs.Opening.{wrong_count, wrong_length, high_at, wrong_level, wrong_table, open_verdict, opened, opening}
-use Rattle.house.proofs.Tests.{is, clash, refuted, and_true, or_false, not_is}
+use Rattle.std.proofs.lemmas.Bool.{cases_Bool, false_from_ne_true, and_parts, or_parts, not-false}
+use Rattle.house.proofs.Tests.{clash}
 use Rattle.house.proofs.Searches.{any_none, any_some}
 use Rattle.house.proofs.Levels.{ordered, undisordered, old_chain_long, old_chain_ordered}
 use Rattle.house.proofs.Checks.{none_applies, test_fails, foremost_stands, given_last}
-use Rattle.house.proofs.Openings.{opened_sizes, opened_item, opened_pending, opened_place, opened_cell, opened_next}
+use Rattle.house.proofs.Openings.{opening_none, opening_number, opened_sizes, opened_item, opened_pending, opened_place, opened_cell, opened_next}
 use Rattle.reach.specs.Kept.{Kept, OpeningHas, ReachableHas}
 use Rattle.reach.specs.Opening.{Passable, OpeningStands, SixteenExactly, OpenedExactly, RefusedIsOld}
 use Rattle.reach.proofs.Law.{clear_held, clear_law}
@@ -31,12 +32,12 @@ module _ (levels table : List ℕ) where
   passable : (wrong_length levels || wrong_table table) ≡ false → wrong_level levels ≡ false → Passable levels table
   unfolding wrong_count wrong_table wrong_level high_at
   passable e f =
-      let k = or_false (wrong_length levels) (wrong_table table) e in
-      let l = or_false (eqb (length levels) 0) (ltb 64 (length levels)) k.0 in
+      let k = or_parts (wrong_length levels) (wrong_table table) e in
+      let l = or_parts (eqb (length levels) 0) (ltb 64 (length levels)) k.0 in
       record {
         some = eqb-false _ 0 l.0;
         few = ltb-false 64 (length levels) l.1;
-        whole = eqb-true _ 16 (not_is _ k.1);
+        whole = eqb-true _ 16 (not-false _ k.1);
         low = λ i b. ltb-false 3 (get_or levels i 0) (any_none (high_at levels) 0 (length levels) f i (omega arith) (omega arith));
       }
 
@@ -48,7 +49,7 @@ module _ (levels table : List ℕ) where
     right_levels : wrong_level levels ≡ false
     unfolding wrong_level high_at
     right_levels =
-        refuted _
+        false_from_ne_true _
         (λ y.
         let r = any_some (high_at levels) 0 (length levels) y in
         omega (arith, P.low r.0 (omega (arith, r.2)), ltb-true 3 (get_or levels r.0 0) r.3))
@@ -69,19 +70,18 @@ sixteen : (levels table : List ℕ) → open_verdict levels table ≡ 16 → Pas
 unfolding open_verdict
 sixteen levels table e =
     let given = given_last (sized levels table) 16 (disordered table) (λ z. omega arith) refl refl in
-    let k = and_true (eqb (foremost (sized levels table)) 0) (disordered table) (sym given ∙ eq-eqb _ 16 e) in
+    let k = and_parts (eqb (foremost (sized levels table)) 0) (disordered table) (sym given ∙ eq-eqb _ 16 e) in
     (past_sized levels table (eqb-true _ 0 k.0), λ P. clash k.1 (undisordered table P))
 
 pub sixteen_exactly : SixteenExactly
-unfolding opening
 sixteen_exactly levels table rule = (
-  sixteen levels table,
-  λ P n. rw (verdict_order levels table P) (elim (is (disordered table)) [ inl w ↦ rw w | inr w ↦ absurd (n (ordered table w)) ]),
+  λ e. sixteen levels table (sym (opening_number levels table rule) ∙ e),
+  λ P n. rw (opening_number levels table rule, verdict_order levels table P) (elim (cases_Bool (disordered table)) [ inl w ↦ rw w | inr w ↦ absurd (n (ordered table w)) ]),
 )
 
 pub opening_stands : OpeningStands
-unfolding opening open_verdict
-opening_stands levels table rule = foremost_stands (sized levels table ++ (16, disordered table) ∷ [])
+unfolding open_verdict
+opening_stands levels table rule = rw (opening_number levels table rule) (foremost_stands (sized levels table ++ (16, disordered table) ∷ []))
 
 -- an opening whose number is 0 was of a partial order
 opened_by : (levels table : List ℕ) → open_verdict levels table ≡ 0 → Passable levels table × PartialOrder table
@@ -94,22 +94,23 @@ opened_by levels table e =
 pub opened_exactly : OpenedExactly
 unfolding opening
 opened_exactly levels table rule = (
-  λ e. let k = opened_by levels table e in (k.0, k.1, rw (eq-eqb _ 0 e)),
-  λ P O. rw (verdict_order levels table P, undisordered table O),
+  λ e. let z = sym (opening_number levels table rule) ∙ e in let k = opened_by levels table z in (k.0, k.1, rw (opening_none levels table, eq-eqb _ 0 z)),
+  λ P O. rw (opening_number levels table rule, verdict_order levels table P, undisordered table O),
 )
 
 pub refused_is_old : RefusedIsOld
 unfolding opening
-refused_is_old levels table rule n = rw (ne_eqb (open_verdict levels table) 0 n)
+refused_is_old levels table rule n = rw (opening_none levels table, ne_eqb (open_verdict levels table) 0 (λ e. n (opening_number levels table rule ∙ e)))
 
 -- an opening yields the house of such levels, table and rule, or the house of no items with the old chain and rule A
 pub opening_cases : (P : House → Type 0) (levels table : List ℕ) (rule : Rule) → (Passable levels table → PartialOrder table → P (opened levels table rule)) → P (opened [] old_chain A) → P (opening levels table rule).house
 unfolding opening
 opening_cases P levels table rule done refused =
-    elim (is (eqb (open_verdict levels table) 0)) [
+    rw (opening_none levels table)
+    (elim (cases_Bool (eqb (open_verdict levels table) 0)) [
       | inl y ↦ rw y (let k = opened_by levels table (eqb-true _ 0 y) in done k.0 k.1)
       | inr y ↦ rw y refused
-    ]
+    ])
 
 -- nobody stands there yet
 opened_free : (levels table : List ℕ) (rule : Rule) (p : ℕ) → p < 32 → is_free (place_at (opened levels table rule).places p).standing ≡ true
@@ -119,7 +120,7 @@ module _ (levels table : List ℕ) (rule : Rule) (few : length levels ≤ 64) (l
   -- past the last byte there is 0
   low_all : (i : ℕ) → get_or levels i 0 < 4
   low_all i =
-      elim (is (ltb i (length levels))) [
+      elim (cases_Bool (ltb i (length levels))) [
         | inl y ↦ omega (arith, low i (ltb-true i (length levels) y))
         | inr y ↦ rw (get_or-eq_default levels 0 {n = i} (ltb-false i (length levels) y)) (omega arith)
       ]

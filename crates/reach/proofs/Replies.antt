@@ -7,14 +7,14 @@ use mathlib.Core.Bool.{false}
 use lib.Dec.{eqb}
 use borrow.Author.Tests.{ne_eqb}
 use Rattle.house.specs.declared.Answer.TheVariants.{Done}
-use Rattle.house.specs.declared.Found.TheVariants.{At}
+use Rattle.std.specs.Prelude.{Some}
 use Rattle.house.specs.declared.House.{House}
 use Rattle.house.specs.declared.Mark.TheVariants.{Write}
 use Rattle.house.specs.declared.Outcome.{Outcome}
 use Rattle.house.specs.declared.Request.{Request}
 use Rattle.house.specs.Cell.{holds}
 use Rattle.house.specs.Rules.{begin, read, ask, asker, verdict, read_answer, read_for, ask_answer, replied}
-use Rattle.house.proofs.Tests.{is}
+use Rattle.std.proofs.lemmas.Bool.{cases_Bool}
 use Rattle.house.proofs.Checks.{refusal_not_delay}
 use Rattle.reach.specs.Replies.{Whole, ReplyWhole}
 use Rattle.reach.proofs.Turns.{Turn, refused, waits, begins, reads, writes, certifies, commits, aborts, asks, turn}
@@ -25,15 +25,15 @@ module _ (h : House) (q : Request) where
   plain : (k : ℕ) → q.operation ≡ k → eqb k begin ≡ false → eqb k read ≡ false → eqb k ask ≡ false → 0 ≡ verdict h q → Whole h q (replied q Done)
   plain k o b r a n = record { number = n; operation = refl; item = rw (o, a); ticket = rw (o, b); value = rw (o, r, a); version = rw (o, r) }
 
-  read_whole : (me : ℕ) → q.operation ≡ 1 → asker h q ≡ At me → (replied q (read_for h me q.item)).number ≡ verdict h q → Whole h q (replied q (read_for h me q.item))
+  read_whole : (me : ℕ) → q.operation ≡ 1 → asker h q ≡ Some me → (replied q (read_for h me q.item)).number ≡ verdict h q → Whole h q (replied q (read_for h me q.item))
   unfolding read_answer
   read_whole me o a n =
-      elim (is (holds h.cells Write me q.item)) [
+      elim (cases_Bool (holds h.cells Write me q.item)) [
         | inl w ↦ rw w (record { number = rw w at n; operation = refl; item = rw o; ticket = rw o; value = rw (o, a, w); version = rw (o, a, w) })
         | inr w ↦ rw w (record { number = rw w at n; operation = refl; item = rw o; ticket = rw o; value = rw (o, a, w); version = rw (o, a, w) })
       ]
 
-  ask_whole : (me : ℕ) → q.operation ≡ 6 → asker h q ≡ At me → (replied q (ask_answer h.cells me)).number ≡ verdict h q → Whole h q (replied q (ask_answer h.cells me))
+  ask_whole : (me : ℕ) → q.operation ≡ 6 → asker h q ≡ Some me → (replied q (ask_answer h.cells me)).number ≡ verdict h q → Whole h q (replied q (ask_answer h.cells me))
   unfolding ask_answer
   ask_whole me o a n = record { number = n; operation = refl; item = rw (o, a); ticket = rw o; value = rw (o, a); version = rw o }
 

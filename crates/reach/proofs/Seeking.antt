@@ -16,7 +16,8 @@ use Rattle.house.specs.House.{Sizes, vacant, place_at, free_at, has_ticket, seek
 use Rattle.house.specs.Rules.{stepped}
 use Rattle.house.specs.Opening.{opening}
 use Rattle.house.specs.Run.{finally, replies}
-use Rattle.house.proofs.Tests.{is, clash}
+use Rattle.std.proofs.lemmas.Bool.{cases_Bool}
+use Rattle.house.proofs.Tests.{clash}
 use Rattle.house.proofs.Searches.{Hit, find_finds, round_finds, finds_it, finds_same}
 use Rattle.house.proofs.Places.{holder_open, holder_ticket_lem}
 use Rattle.reach.specs.Kept.{Kept, Open}
@@ -27,7 +28,7 @@ use Rattle.reach.proofs.Opened.{opening_has, reachable_has}
 -- past the last place nobody stands
 past_nobody : {h : House} → Sizes h → (t p : ℕ) → has_ticket h.places t p ≡ true → p < 32
 unfolding has_ticket free_at
-past_nobody {h} S t p has = elim (is (ltb p 32)) [
+past_nobody {h} S t p has = elim (cases_Bool (ltb p 32)) [
   | inl b ↦ ltb-true p 32 b
   | inr n ↦ let out : place_at h.places p ≡ vacant = get_or-eq_default h.places vacant {n = p} (rw S.places (ltb-false p 32 n)) in clash has (rw out)
 ]

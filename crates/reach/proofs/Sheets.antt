@@ -19,7 +19,7 @@ use Rattle.house.specs.Rules.{grown, begun, read_by, written_by, wrote, certifie
 use Rattle.house.specs.Order.{old_chain}
 use Rattle.house.specs.Opening.{opened}
 use Rattle.house.specs.Run.{finally}
-use Rattle.house.proofs.Tests.{is, or_right}
+use Rattle.std.proofs.lemmas.Bool.{cases_Bool, or_right}
 use Rattle.house.proofs.Effects.{committed_item_lem}
 use Rattle.house.proofs.Openings.{opened_item}
 use Rattle.reach.specs.Kept.{Kept}
@@ -34,13 +34,13 @@ Saved x x' = (x' ≡ x) ⊎ ((x'.value ≢ 0) × (x'.version ≢ 0))
 
 grown_counts : (v : ℕ) → grown v ≢ 0
 unfolding grown
-grown_counts v = elim (is (ltb v 4294967295)) [ inl e ↦ rw e (λ z. omega arith) | inr e ↦ rw e (λ z. omega (arith, ltb-false v 4294967295 e)) ]
+grown_counts v = elim (cases_Bool (ltb v 4294967295)) [ inl e ↦ rw e (λ z. omega arith) | inr e ↦ rw e (λ z. omega (arith, ltb-false v 4294967295 e)) ]
 
 commit_saves : {h : House} → Kept h → (me i : ℕ) → me < 32 → i < 64 → Saved (item_at h.items i) (item_at (committed_by h me).items i)
 unfolding committed_item wrote
 commit_saves {h} K me i m a =
     rw (committed_item_lem K.sizes me i a)
-    (elim (is (holds h.cells Certify me i)) [
+    (elim (cases_Bool (holds h.cells Certify me i)) [
       | inl c ↦ rw c (inr (K.drawn me i m a (or_right (holds h.cells Write me i) _ c), grown_counts _))
       | inr c ↦ rw c (inl refl)
     ])

@@ -7,7 +7,7 @@ use mathlib.Core.Logic.{◌≢◌, inl, inr}
 use mathlib.Core.Bool.{true, false}
 use lib.Dec.{eqb}
 use borrow.Author.Tests.{eq-eqb, eqb-true, eqb-false}
-use Rattle.house.specs.declared.Found.TheVariants.{At}
+use Rattle.std.specs.Prelude.{Some}
 use Rattle.house.specs.declared.House.{House}
 use Rattle.house.specs.declared.Mark.TheVariants.{Read, Signalled}
 use Rattle.house.specs.declared.Outcome.{Outcome}
@@ -16,7 +16,8 @@ use Rattle.house.specs.Search.{if_found}
 use Rattle.house.specs.Cell.{has, cell_at, holds}
 use Rattle.house.specs.House.{item_at}
 use Rattle.house.specs.Rules.{certify, commit, asker, begun, read_by, written_by, signals_at, signalled, certified_by, left, stepped}
-use Rattle.house.proofs.Tests.{is, same, clash}
+use Rattle.std.proofs.lemmas.Bool.{cases_Bool}
+use Rattle.house.proofs.Tests.{same, clash}
 use Rattle.house.proofs.Levels.{above_itself}
 use Rattle.house.proofs.Effects.{signalled_long, read_cell_other, written_cell_other}
 use Rattle.reach.specs.Signals.{Gives, OnlySignals, SignalsAll, ReadersTold}
@@ -116,7 +117,7 @@ module _ {h : House} (L : Law h) (q : Request) (p i : ℕ) (b : p < 32) (a : i <
 
   -- NO CHANGE PASSES A READER BY: only a commit changes items
 
-  turn_told : {o : Outcome} → asker h q ≢ At p → has Read (cell_at h.cells p i) ≡ true → item_at o.house.items i ≢ item_at h.items i → Turn h q o → Told o.house
+  turn_told : {o : Outcome} → asker h q ≢ Some p → has Read (cell_at h.cells p i) ≡ true → item_at o.house.items i ≢ item_at h.items i → Turn h q o → Told o.house
   unfolding begun read_by written_by certified_by left
   turn_told other r n (refused x) = absurd (n refl)
   turn_told other r n (waits k z x) = absurd (n refl)
@@ -125,7 +126,7 @@ module _ {h : House} (L : Law h) (q : Request) (p i : ℕ) (b : p < 32) (a : i <
   turn_told other r n (writes me o A K) = absurd (n refl)
   turn_told other r n (certifies me o A K) = absurd (n refl)
   turn_told other r n (commits me o A K) =
-      elim (is (has Signalled (cell_at (left (signalled commit h me) h me).cells p i))) [
+      elim (cases_Bool (has Signalled (cell_at (left (signalled commit h me) h me).cells p i))) [
         | inl s ↦ s
         | inr s ↦ absurd (n ((commit_frame L K.place).row p i b a (λ x. other (rw x A.at)) r s))
       ]

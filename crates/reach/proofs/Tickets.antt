@@ -1,5 +1,6 @@
 -- No ticket is given twice: what a begin gives was not given out before it, and is from then on.
 -- Assumes nothing.
+use Rattle.std.proofs.Math.Bool.{and-false}
 use Prim.Native.Nat.{ℕ}
 use native.Mathlib.Omega.{arith}
 use mathlib.Core.Path.{◌≡◌, refl}
@@ -14,7 +15,8 @@ use Rattle.house.specs.declared.Request.{Request}
 use Rattle.house.specs.Search.{distinct}
 use Rattle.house.specs.Rules.{begin, stepped}
 use Rattle.house.specs.Run.{same_name, trace, done}
-use Rattle.house.proofs.Tests.{is, clash, and_true, and_no}
+use Rattle.std.proofs.lemmas.Bool.{cases_Bool, and_parts}
+use Rattle.house.proofs.Tests.{clash}
 use Rattle.reach.specs.Kept.{Issued, Kept}
 use Rattle.reach.specs.Tickets.{given, among, TicketsOnce}
 use Rattle.reach.proofs.Law.{Law}
@@ -45,12 +47,12 @@ unfolding Issued
 begin_gives L (refused n) d = clash d (rw (ne_eqb _ 0 n))
 begin_gives L (waits p z e) d = clash d refl
 begin_gives L (begins me o K) d = record { new = λ i. omega (arith, i K.ticket); out = now_issued L K }
-begin_gives L (reads me o A K) d = clash d (rw (o, and_no _))
+begin_gives L (reads me o A K) d = clash d (rw (o, and-false _))
 begin_gives L (writes me o A K) d = clash d (rw o)
 begin_gives L (certifies me o A K) d = clash d (rw o)
 begin_gives L (commits me o A K) d = clash d (rw o)
 begin_gives L (aborts me o A) d = clash d (rw o)
-begin_gives L (asks me o A) d = clash d (rw (o, and_no _))
+begin_gives L (asks me o A) d = clash d (rw (o, and-false _))
 
 -- what has been given out is not given again
 not_again : {h : House} → Kept h → (l t : ℕ) → Issued h l t → (qs : List Request) → among (l, t) (given (trace h qs)) ≡ false
@@ -59,15 +61,15 @@ not_again K l t i [] = refl
 not_again {h = h} K l t i (q ∷ qs) =
     let L = kept_law K in
     let rest = not_again {h = (stepped h q).house} (step_keeps h K q) l t (turn_issued L (turn h q) l t i) qs in
-    elim (is (done (q, (stepped h q).reply) begin)) [
+    elim (cases_Bool (done (q, (stepped h q).reply) begin)) [
       | inl d ↦ rw (d, other (begin_gives L (turn h q) d)) rest
       | inr d ↦ rw d rest
     ]
   where
     other : {h' : House} {k s : ℕ} → Given h h' k s → (eqb k l && eqb s t) ≡ false
     other {k = k} {s = s} G =
-        elim (is (eqb k l && eqb s t)) [
-          | inl y ↦ let e = and_true (eqb k l) (eqb s t) y in absurd (G.new (rw (eqb-true k l e.0, eqb-true s t e.1) i))
+        elim (cases_Bool (eqb k l && eqb s t)) [
+          | inl y ↦ let e = and_parts (eqb k l) (eqb s t) y in absurd (G.new (rw (eqb-true k l e.0, eqb-true s t e.1) i))
           | inr y ↦ y
         ]
 
@@ -76,7 +78,7 @@ unfolding trace given
 once K [] = refl
 once {h = h} K (q ∷ qs) =
     let K' = step_keeps h K q in
-    elim (is (done (q, (stepped h q).reply) begin)) [
+    elim (cases_Bool (done (q, (stepped h q).reply) begin)) [
       | inl d ↦ rw (d, not_again K' _ _ (begin_gives (kept_law K) (turn h q) d).out qs) (once {h = (stepped h q).house} K' qs)
       | inr d ↦ rw d (once {h = (stepped h q).house} K' qs)
     ]

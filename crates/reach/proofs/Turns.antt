@@ -9,8 +9,7 @@ use mathlib.Core.Bool.{true, false}
 use lib.Dec.{eqb}
 use borrow.Author.Tests.{eqb-true, eqb-false, eq-eqb, ne_eqb, leb-false}
 use Rattle.house.specs.declared.Answer.TheVariants.{Refused, Done, Ticket}
-use Rattle.house.specs.declared.Found.{Found}
-use Rattle.house.specs.declared.Found.TheVariants.{At, Nobody}
+use Rattle.std.specs.Prelude.{Option, Some, None}
 use Rattle.house.specs.declared.House.{House}
 use Rattle.house.specs.declared.Mark.TheVariants.{Read, Write, Certify}
 use Rattle.house.specs.declared.Outcome.{Outcome}
@@ -21,7 +20,8 @@ use Rattle.house.specs.House.{dominates, level_of, item_at, place_at, next_at, i
 use Rattle.house.specs.Checks.{foremost}
 use Rattle.house.specs.Rules.{begin, asker, uses_item, forbidden, blank_sheet, stopped, untimely, worn_out, crowded, ticketless, another_claims, peer_reads, hinders, wants, conflict, holder, refusals, begun, read_by, read_for, written_by, certified_by, committed_by, aborted_by, ask_answer, outcome, served, performed, named, stepped}
 use Rattle.house.proofs.Operations.{is_begin, is_read, is_write, is_certify, is_commit, is_abort, is_ask, not_begin}
-use Rattle.house.proofs.Tests.{same, or_false, and_right_false, not_is}
+use Rattle.std.proofs.lemmas.Bool.{or_parts, not-false}
+use Rattle.house.proofs.Tests.{same, and_right_false}
 use Rattle.house.proofs.Holders.{another_not, conflict_none}
 use Rattle.house.proofs.Places.{Seated, seek_at, vacancy_at, is_active_lem, is_certified_lem}
 use Rattle.house.proofs.Checks.{Clear, clear, item_there, somebody, asker_known}
@@ -68,16 +68,16 @@ pub record MayCommit (h : House) (me : ℕ) : Type 0 where
 
 -- the transaction that asks is found at `me`, and so is seated there
 pub record Asker (h : House) (q : Request) (me : ℕ) : Type 0 where
-  pub at : asker h q ≡ At me
+  pub at : asker h q ≡ Some me
   pub seated : Seated h.places q.level q.ticket me
 
-pub found : {h : House} {q : Request} {me : ℕ} → q.level < 4 → asker h q ≡ At me → Asker h q me
+pub found : {h : House} {q : Request} {me : ℕ} → q.level < 4 → asker h q ≡ Some me → Asker h q me
 found {h} {q} {me} b a = record { at = a; seated = seek_at h.places q.level q.ticket me b a }
 
 -- the cases, with what each yields
 pub data Turn (h : House) (q : Request) : Outcome → Type 0 where
   refused : foremost (refusals h q) ≢ 0 → Turn h q (outcome h q (Refused (foremost (refusals h q))))
-  waits : (p : ℕ) → foremost (refusals h q) ≡ 0 → holder h q ≡ At p → Turn h q (outcome h q (named h p))
+  waits : (p : ℕ) → foremost (refusals h q) ≡ 0 → holder h q ≡ Some p → Turn h q (outcome h q (named h p))
   begins : (me : ℕ) → q.operation ≡ 0 → MayBegin h q.level me → Turn h q (outcome (begun h q.level me) q (Ticket (next_at h.next q.level)))
   reads : (me : ℕ) → q.operation ≡ 1 → Asker h q me → MayRead h me q.item → Turn h q (outcome (read_by h me q.item) q (read_for h me q.item))
   writes : (me : ℕ) → q.operation ≡ 2 → Asker h q me → MayWrite h me q.item q.value → Turn h q (outcome (written_by h me q.item q.value) q Done)
@@ -86,7 +86,7 @@ pub data Turn (h : House) (q : Request) : Outcome → Type 0 where
   aborts : (me : ℕ) → q.operation ≡ 5 → Asker h q me → Turn h q (outcome (aborted_by h me) q Done)
   asks : (me : ℕ) → q.operation ≡ 6 → Asker h q me → Turn h q (outcome h q (ask_answer h.cells me))
 
-begun_is : (h : House) (q : Request) (me : ℕ) → q.operation ≡ begin → vacancy h.places q.level ≡ At me → performed h q ≡ outcome (begun h q.level me) q (Ticket (next_at h.next q.level))
+begun_is : (h : House) (q : Request) (me : ℕ) → q.operation ≡ begin → vacancy h.places q.level ≡ Some me → performed h q ≡ outcome (begun h q.level me) q (Ticket (next_at h.next q.level))
 unfolding performed
 begun_is h q me o a = rw (o, a)
 
@@ -94,14 +94,14 @@ module _ (h : House) (q : Request) (z : foremost (refusals h q) ≡ 0) where
   abbrev c : Clear h q
   c = clear h q z
 
-  may_begin : q.operation ≡ 0 → (me : ℕ) × (vacancy h.places q.level ≡ At me) × MayBegin h q.level me
+  may_begin : q.operation ≡ 0 → (me : ℕ) × (vacancy h.places q.level ≡ Some me) × MayBegin h q.level me
   unfolding crowded ticketless
   may_begin o =
       let s = somebody (vacancy h.places q.level) (rw o at c.roomy) in
       let u = vacancy_at h.places q.level s.0 c.level s.1 in
       (s.0, s.1, record { level = c.level; place = u.within.place; placed = u.within.level; empty = u.free; ticket = eqb-false _ 0 (rw o at c.ticketed) })
 
-  module _ (me : ℕ) (A : Asker h q me) (none : conflict h.cells q me ≡ Nobody) where
+  module _ (me : ℕ) (A : Asker h q me) (none : conflict h.cells q me ≡ None) where
     still_active : is_certified (place_at h.places me).standing ≡ false → (place_at h.places me).standing ≡ Active
     still_active e = is_active_lem _ A.seated.taken e
 
@@ -119,7 +119,7 @@ module _ (h : House) (q : Request) (z : foremost (refusals h q) ≡ 0) where
           row = i.1;
           item = i.0;
           active = still_active (rw (o, A.at) at c.timely);
-          may = rw A.seated.within.level (not_is _ (rw o at c.allowed));
+          may = rw A.seated.within.level (not-false _ (rw o at c.allowed));
           uncontested = λ p b d. another_not h.cells Certify me q.item p (rw o at (free p i.1 b (rw o))) d;
         }
 
@@ -132,11 +132,11 @@ module _ (h : House) (q : Request) (z : foremost (refusals h q) ≡ 0) where
           row = i.1;
           item = i.0;
           active = still_active (rw (o, A.at) at c.timely);
-          mine = eqb-true _ _ (not_is _ (rw o at c.allowed)) ∙ sym A.seated.within.level;
+          mine = eqb-true _ _ (not-false _ (rw o at c.allowed)) ∙ sym A.seated.within.level;
           drawn = eqb-false _ 0 (rw o at c.drawn);
           room = leb-false 4294967295 (item_at h.items q.item).version (rw o at c.fresh);
           uncontested = λ p b d.
-              let n = or_false (another_holds h.cells Write me q.item p) _ (rw o at (free p i.1 b (rw o))) in
+              let n = or_parts (another_holds h.cells Write me q.item p) _ (rw o at (free p i.1 b (rw o))) in
               rw (another_not h.cells Write me q.item p n.0 d) (another_not h.cells Certify me q.item p n.1 d);
         }
 
@@ -168,7 +168,7 @@ module _ (h : House) (q : Request) (z : foremost (refusals h q) ≡ 0) where
   yields : {x y : Outcome} → Turn h q y → x ≡ y → Turn h q x
   yields t e = rw e t
 
-  turn_done : holder h q ≡ Nobody → Turn h q (performed h q)
+  turn_done : holder h q ≡ None → Turn h q (performed h q)
   unfolding served
   turn_done none = elim c.operation [
     | is_begin o ↦ let b = may_begin o in yields (begins b.0 o b.2) (begun_is h q b.0 o b.1)
@@ -180,9 +180,9 @@ module _ (h : House) (q : Request) (z : foremost (refusals h q) ≡ 0) where
     | is_ask o ↦ by_asker (not_begin o) (λ me A. yields (asks me o A) (rw o))
   ]
 
-  turn_unrefused : (who : Found) → holder h q ≡ who → Turn h q (stepped h q)
-  turn_unrefused (At p) e = yields (waits p z e) (waits_is h q p z e)
-  turn_unrefused Nobody e = yields (turn_done e) (free_is h q z e)
+  turn_unrefused : (who : Option ℕ) → holder h q ≡ who → Turn h q (stepped h q)
+  turn_unrefused (Some p) e = yields (waits p z e) (waits_is h q p z e)
+  turn_unrefused None e = yields (turn_done e) (free_is h q z e)
 
 -- every request is one of them
 pub turn : (h : House) (q : Request) → Turn h q (stepped h q)

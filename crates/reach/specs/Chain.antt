@@ -16,7 +16,7 @@ use Rattle.house.specs.House.{level_of, item_at, place_at, with_items, with_plac
 use Rattle.house.specs.Checks.{foremost}
 use Rattle.house.specs.Order.{old_chain}
 use Rattle.house.specs.Rules.{begin, read, write, certify, commit, ◌does◌, asker, delayed, refusals, committed_item, aborted_by, outcome, served, performed, unserved}
-use Rattle.house.specs.Opening.{wrong_length, wrong_level, opening}
+use Rattle.house.specs.Opening.{number_of, wrong_length, wrong_level, opening}
 use Rattle.house.specs.Run.{finally, replies}
 use Rattle.reach.specs.Seeking.{run_by}
 
@@ -80,7 +80,7 @@ OldLooksAtNone = (h : House) (order : List ℕ) (rule : Rule) (q : Request) → 
 
 -- with the chain's table an opening gets the number that it got: "length 0 or above 64 gives 13; a byte above 3 gives 14"
 abbrev pub OldOpening : Type 0
-OldOpening = (levels : List ℕ) → (opening levels old_chain A).number ≡ foremost ((13, wrong_length levels) ∷ (14, wrong_level levels) ∷ [])
+OldOpening = (levels : List ℕ) → number_of (opening levels old_chain A) ≡ foremost ((13, wrong_length levels) ∷ (14, wrong_level levels) ∷ [])
 
 -- and under rule A any requests from it lead to the same house and get the same replies
 abbrev pub ChainIsOld : Type 0

@@ -2,8 +2,7 @@
 -- number is held to 64 as well as to the count. In a house that can be reached neither decides. Two guards more, that a done request
 -- which finds no place is refused, and that a delay without a holder names nobody, decide in no house at all.
 -- Assumes nothing.
-use Rattle.std.specs.Prelude.{ℕ, ◌+◌, ◌<◌, ◌≡◌, true, ◌&&◌, leb}
-use Rattle.house.specs.declared.Found.TheVariants.{At}
+use Rattle.std.specs.Prelude.{ℕ, ◌+◌, ◌<◌, ◌≡◌, true, ◌&&◌, leb, Some}
 use Rattle.house.specs.declared.House.{House}
 use Rattle.house.specs.declared.Request.{Request}
 use Rattle.house.specs.House.{item_at}
@@ -27,4 +26,4 @@ PlaceGuardRests = (h : House) (q : Request) → (stepped h q).reply.number ≡ v
 
 -- and a delay has a holder, who is named
 abbrev pub HolderGuardRests : Type 0
-HolderGuardRests = (h : House) (q : Request) → (stepped h q).reply.number ≡ 1 → (p : ℕ) × (holder h q ≡ At p) × (stepped h q ≡ outcome h q (named h p))
+HolderGuardRests = (h : House) (q : Request) → (stepped h q).reply.number ≡ 1 → (p : ℕ) × (holder h q ≡ Some p) × (stepped h q ≡ outcome h q (named h p))

@@ -1,8 +1,7 @@
 -- CR 5: "The conflict test now gives the holder. In a delay's reply the value field carries the holder's ticket and the version field its
 -- level. With several, take the lowest item, then the lowest place. .. The holder is never above the asker".
 -- Assumes nothing.
-use Rattle.std.specs.Prelude.{ℕ, ◌≤◌, ◌<◌, ◌≡◌, ◌≢◌, ◌⊎◌, true}
-use Rattle.house.specs.declared.Found.TheVariants.{At}
+use Rattle.std.specs.Prelude.{ℕ, ◌≤◌, ◌<◌, ◌≡◌, ◌≢◌, ◌⊎◌, true, Some}
 use Rattle.house.specs.declared.House.{House}
 use Rattle.house.specs.declared.Reply.{Reply}
 use Rattle.house.specs.declared.Request.{Request}
@@ -18,7 +17,7 @@ pub record Holds (h : House) (q : Request) (p : ℕ) : Type 0 where
   -- the asker's place, and the item
   pub me : ℕ
   pub item : ℕ
-  pub asking : asker h q ≡ At me
+  pub asking : asker h q ≡ Some me
   pub row : item < 64
   -- the holder is open, and another than the asker
   pub stands : Open h p

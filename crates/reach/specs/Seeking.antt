@@ -1,8 +1,6 @@
 -- CR 4: "Begin a ticket's search at the place numbered by the ticket modulo 8 and go round. No answer changes."
 -- Assumes nothing.
-use Rattle.std.specs.Prelude.{ℕ, ◌*◌, ◌<◌, ◌≡◌, List, [], ◌∷◌}
-use Rattle.house.specs.declared.Found.{Found}
-use Rattle.house.specs.declared.Found.TheVariants.{At}
+use Rattle.std.specs.Prelude.{ℕ, ◌*◌, ◌<◌, ◌≡◌, List, [], ◌∷◌, Option, Some}
 use Rattle.house.specs.declared.House.{House}
 use Rattle.house.specs.declared.Outcome.{Outcome}
 use Rattle.house.specs.declared.Place.{Place}
@@ -18,10 +16,10 @@ use Rattle.reach.specs.Reach.{Reachable}
 use Rattle.reach.specs.Kept.{Open}
 
 -- document 01's search: "over the eight places of one level", from the first on
-unfoldable pub seek_in_order : List Place → ℕ → ℕ → Found
+unfoldable pub seek_in_order : List Place → ℕ → ℕ → Option ℕ
 seek_in_order places l t = find (has_ticket places t) (l * 8) 8
 
-abbrev pub asker_in_order : House → Request → Found
+abbrev pub asker_in_order : House → Request → Option ℕ
 asker_in_order h q = seek_in_order h.places q.level q.ticket
 
 -- the house after these requests, and what they are replied, by a step
@@ -36,7 +34,7 @@ run_by step h (q ∷ qs) =
 
 -- "Each request for a transaction finds its place": in a house that can be reached, whoever is open is found by level and ticket
 abbrev pub FindsItsPlace : Type 0
-FindsItsPlace = (h : House) → Reachable h → (p : ℕ) → p < 32 → Open h p → (q : Request) → q.level ≡ level_of p → q.ticket ≡ (place_at h.places p).ticket → asker h q ≡ At p
+FindsItsPlace = (h : House) → Reachable h → (p : ℕ) → p < 32 → Open h p → (q : Request) → q.level ≡ level_of p → q.ticket ≡ (place_at h.places p).ticket → asker h q ≡ Some p
 
 -- and the search in document 01's order finds nobody else, whatever is asked
 abbrev pub SameAsker : Type 0
@@ -46,7 +44,7 @@ SameAsker = (h : House) → Reachable h → (q : Request) → asker_in_order h q
 -- With document 01's search in the place of theirs, any requests from any opening lead to the same house and get the same replies
 abbrev pub NoAnswerChanges : Type 0
 NoAnswerChanges =
-    (rules : Found → House → Request → Outcome)
+    (rules : Option ℕ → House → Request → Outcome)
     → ((h : House) (q : Request) → rules (asker h q) h q ≡ stepped h q)
     → (levels table : List ℕ) (rule : Rule) (qs : List Request)
     → let h = (opening levels table rule).house in

@@ -1,8 +1,7 @@
 -- CR 7, and the wish behind it: teachers lost work "to signals from a writer who then aborted". When a signal is given, by whom and to
 -- whom, under either rule; of houses that can be reached and of all requests.
 -- Assumes nothing.
-use Rattle.std.specs.Prelude.{ℕ, ◌<◌, ◌≡◌, ◌≢◌, true, false}
-use Rattle.house.specs.declared.Found.TheVariants.{At}
+use Rattle.std.specs.Prelude.{ℕ, ◌<◌, ◌≡◌, ◌≢◌, true, false, Some}
 use Rattle.house.specs.declared.House.{House}
 use Rattle.house.specs.declared.Mark.TheVariants.{Read, Signalled}
 use Rattle.house.specs.declared.Request.{Request}
@@ -17,7 +16,7 @@ pub record Gives (h : House) (q : Request) (p i : ℕ) : Type 0 where
   pub operation : q.operation ≡ signals_at h.rule
   pub done : (stepped h q).reply.number ≡ 0
   pub writer : ℕ
-  pub asks : asker h q ≡ At writer
+  pub asks : asker h q ≡ Some writer
   pub wrote : wrote h.cells writer i ≡ true
   pub read : holds h.cells Read p i ≡ true
   pub higher : above h.order (level_of p) q.level ≡ true
@@ -37,5 +36,5 @@ SignalsAll = (h : House) → Reachable h → (q : Request) (p i : ℕ) → p < 3
 -- so no change passes a reader by: whoever has read an item that another's request changes is signalled after it, under either rule
 abbrev pub ReadersTold : Type 0
 ReadersTold =
-    (h : House) → Reachable h → (q : Request) (p i : ℕ) → p < 32 → i < 64 → asker h q ≢ At p → holds h.cells Read p i ≡ true
+    (h : House) → Reachable h → (q : Request) (p i : ℕ) → p < 32 → i < 64 → asker h q ≢ Some p → holds h.cells Read p i ≡ true
     → item_at (stepped h q).house.items i ≢ item_at h.items i → holds (stepped h q).house.cells Signalled p i ≡ true

@@ -5,29 +5,30 @@ use native.Mathlib.Omega.{arith}
 use native.Mathlib.Nat.{add-zero, zero-add, mod-lt, mod-eq_of_lt}
 use mathlib.Core.Path.{◌≡◌, refl, sym, ap, ◌∙◌}
 use mathlib.Core.Logic.{◌≢◌, inl, inr}
-use mathlib.Core.Bool.{Bool, true, false, cond, ◌&&◌, ◌||◌, not}
+use mathlib.Core.Bool.{Bool, true, false, cond, ◌&&◌, ◌||◌}
 use mathlib.Core.List.{List, [], ◌∷◌, ◌++◌}
 use lib.ListN.{length, drop, get_or, replicate, length-replicate}
 use lib.Seq.{get_or-append-add}
 use lib.Dec.{eqb, leb}
-use borrow.Author.Tests.{eq-eqb, ne_eqb, leb-false, not-true}
-use Rattle.house.specs.declared.Found.{Found}
-use Rattle.house.specs.declared.Found.TheVariants.{At, Nobody}
+use borrow.Author.Tests.{eq-eqb, ne_eqb, leb-false}
+use Rattle.std.specs.Prelude.{Option, Some, None}
 use Rattle.house.specs.declared.House.{House}
 use Rattle.house.specs.declared.Item.{Item}
 use Rattle.house.specs.declared.Mark.TheVariants.{Write}
 use Rattle.house.specs.declared.Place.{Place}
+use Rattle.house.specs.declared.Refusal.{Refusal}
+use Rattle.house.specs.declared.Refusal.TheVariants.{NoOperation, NoLevel, UnusedSet, Unknown, Crowded, Ticketless}
 use Rattle.house.specs.declared.Request.{Request}
 use Rattle.house.specs.declared.Rule.TheVariants.{A}
-use Rattle.house.specs.Checks.{foremost}
 use Rattle.house.specs.Search.{scan, any, find, find_first, on_round, find_round, if_found, nobody}
 use Rattle.house.specs.Cell.{holds}
 use Rattle.house.specs.House.{blank, vacant, item_at, pending_at, place_at, next_at, free_at, has_ticket, seek, vacancy}
-use Rattle.house.specs.Rules.{begin, certify, ◌does◌, asker, no_operation, no_level, unused_set, uses_item, hinders, wants, holder_on, conflict, holder, refusals}
+use Rattle.house.specs.Rules.{begin, certify, ◌does◌, asker, no_operation, no_level, unused_set, uses_item, hinders, wants, holder_on, conflict, holder, reasons}
 use Rattle.house.proofs.Unfolding.{tests}
 use Rattle.house.proofs.Operations.{operation_of, is_begin, is_read, is_write, is_certify, is_commit, is_abort, is_ask}
-use Rattle.house.proofs.Tests.{is, same, and_true, or_right}
-use Rattle.house.proofs.Checks.{numbered, there, level_there}
+use Rattle.std.proofs.lemmas.Bool.{cases_Bool, or_right}
+use Rattle.house.proofs.Tests.{same}
+use Rattle.house.proofs.Checks.{there, level_there}
 use Rattle.house.proofs.Searches.{any_find, none_found, scan_same, scan_first}
 use Rattle.house.proofs.Holders.{conflict_on, conflict_never}
 use Rattle.house.proofs.Places.{seek_at}
@@ -37,29 +38,17 @@ use Rattle.ruling.specs.declared.Change.TheVariants.{Begin}
 use Rattle.ruling.specs.declared.Ruling.{Ruling}
 use Rattle.ruling.specs.declared.Ruling.TheVariants.{Refuse, Wait, Grant}
 use Rattle.ruling.specs.declared.View.{View}
-use Rattle.ruling.specs.Ruling.{granted, ruled}
-use Rattle.ruling.specs.Judged.{Shown, Judged, found, chain, lowest_holder, waits_at, certify_holder, begin_ruled, read_ruled, write_ruled, certify_ruled, commit_ruled, known_ruled}
-
--- The checks one by one: the refusal of the first that applies, or what is ruled where none does
-
-chained : (l : List (ℕ × Bool)) (g : Ruling) → numbered l ≡ true → cond (eqb (foremost l) 0) g (Refuse (foremost l)) ≡ chain l g
-chained [] g n = refl
-chained (x ∷ xs) g n =
-    let k = and_true (not (eqb x.0 0)) (numbered xs) n in
-    elim (is x.1) [ inl y ↦ rw (y, not-true (eqb x.0 0) k.0) | inr y ↦ rw y (chained xs g k.1) ]
+use Rattle.ruling.specs.Ruling.{chain, granted, ruled}
+use Rattle.ruling.specs.Judged.{Shown, Judged, found, lowest_holder, waits_at, certify_holder, begin_ruled, read_ruled, write_ruled, certify_ruled, commit_ruled, known_ruled}
 
 abbrev past_refusals : House → Request → Ruling
 past_refusals h q = if_found (holder h q) Wait (granted h q)
 
-ruled_chain : (h : House) (q : Request) → ruled h q ≡ chain (refusals h q) (past_refusals h q)
-unfolding ruled refusals
-ruled_chain h q = chained (refusals h q) (past_refusals h q) refl
-
 -- A search over the 32 from b on is one over the eight, moved
 
-abbrev moved : ℕ → Found → Found
-moved b (At k) = At (b + k)
-moved b Nobody = Nobody
+abbrev moved : ℕ → Option ℕ → Option ℕ
+moved b (Some k) = Some (b + k)
+moved b None = None
 
 from_j : (f g : ℕ → Bool) (b j n : ℕ) → ((k : ℕ) → k < j + n → f (b + k) ≡ g k) → find f (b + j) n ≡ moved b (find g j n)
 unfolding scan
@@ -67,7 +56,7 @@ from_j f g b j zero e = refl
 from_j f g b j (suc n) e =
     let s : suc (b + j) ≡ b + suc j = omega arith in
     let here = e j (omega arith) in
-    elim (is (g j)) [
+    elim (cases_Bool (g j)) [
       | inl y ↦ rw (here, y)
       | inr y ↦ rw (here, y, s) (from_j f g b (suc j) n (λ k h. e k (omega arith)))
     ]
@@ -80,20 +69,20 @@ round_moved : (f g : ℕ → Bool) (b n start : ℕ) → ((k : ℕ) → k < n �
 round_moved f g b n start e =
     let all = on_round b n start in
     let eight = on_round 0 n start in
-    let tests = scan_same (λ k. f (all k)) (λ k. g (eight k)) (λ k r. At k) Nobody 0 n (λ k a h. e _ (mod-lt (start + k) (omega arith)) ∙ rw (zero-add ((start + k) % n))) in
-    rw (scan_first (λ k. f (all k)) (λ k. At (all k)) Nobody 0 n, scan_first (λ k. g (eight k)) (λ k. At (eight k)) Nobody 0 n, tests) (places (find (λ k. g (eight k)) 0 n))
+    let tests = scan_same (λ k. f (all k)) (λ k. g (eight k)) (λ k r. Some k) None 0 n (λ k a h. e _ (mod-lt (start + k) (omega arith)) ∙ rw (zero-add ((start + k) % n))) in
+    rw (scan_first (λ k. f (all k)) (λ k. Some (all k)) None 0 n, scan_first (λ k. g (eight k)) (λ k. Some (eight k)) None 0 n, tests) (places (find (λ k. g (eight k)) 0 n))
   where
-    places : (who : Found) → if_found who (λ k. At (on_round b n start k)) Nobody ≡ moved b (if_found who (λ k. At (on_round 0 n start k)) Nobody)
-    places (At k) = rw (zero-add ((start + k) % n))
-    places Nobody = refl
+    places : (who : Option ℕ) → if_found who (λ k. Some (on_round b n start k)) None ≡ moved b (if_found who (λ k. Some (on_round 0 n start k)) None)
+    places (Some k) = rw (zero-add ((start + k) % n))
+    places None = refl
 
 -- Of those that have w, whom the first that finds somebody finds: the lowest that has somebody, and whoever that is
-first_some : (w : ℕ → Bool) (f : ℕ → ℕ → Bool) (k n : ℕ) → find_first (λ i. cond (w i) (find (f i) 0 32) Nobody) k n ≡ if_found (find (λ i. w i && any (f i) 0 32) k n) (λ i. find (f i) 0 32) Nobody
+first_some : (w : ℕ → Bool) (f : ℕ → ℕ → Bool) (k n : ℕ) → find_first (λ i. cond (w i) (find (f i) 0 32) None) k n ≡ if_found (find (λ i. w i && any (f i) 0 32) k n) (λ i. find (f i) 0 32) None
 unfolding scan
 first_some w f k zero = refl
 first_some w f k (suc n) =
-    elim (is (w k)) [
-      | inl y ↦ elim (is (any (f k) 0 32)) [
+    elim (cases_Bool (w k)) [
+      | inl y ↦ elim (cases_Bool (any (f k) 0 32)) [
         | inl e ↦ let p = any_find (f k) 0 32 e in rw (y, e, p.1)
         | inr e ↦ rw (y, e, none_found (f k) 0 32 e) (first_some w f (suc k) n)
       ]
@@ -106,13 +95,13 @@ made count order x v s q me = record { request = q; count = count; order = order
 
 -- THE RULING OVER WHAT IS SHOWN: the checks that look at the request alone, and then a begin, or the operation of the transaction found
 
-abbrev request_checks : Request → List (ℕ × Bool)
-request_checks q = (3, no_operation q) ∷ (4, no_level q) ∷ (5, unused_set q) ∷ []
+abbrev request_checks : Request → List (Refusal × Bool)
+request_checks q = (NoOperation, no_operation q) ∷ (NoLevel, no_level q) ∷ (UnusedSet, unused_set q) ∷ []
 
 abbrev operation_ruled : View → List ℕ → Request → Ruling
 operation_ruled v cells q =
     let begin' = begin_ruled (vacancy v.eight 0) v.ticket q.level in
-    let others = if_found (seek v.eight 0 q.ticket) (λ k. known_ruled (found v q k) cells) (Refuse 6) in
+    let others = if_found (seek v.eight 0 q.ticket) (λ k. known_ruled (found v q k) cells) (Refuse Unknown) in
     cond (q does begin) begin' others
 
 unfoldable pub shown_ruled : View → List ℕ → Request → Ruling
@@ -120,30 +109,30 @@ shown_ruled v cells q = chain (request_checks q) (operation_ruled v cells q)
 
 -- WHAT IS RULED, over the house, past the checks of the request alone
 
-granted_begin : (free : Found) (t l : ℕ) → let all = moved (l * 8) free in
-    cond (nobody all) (Refuse 11) (cond (eqb t 0) (Refuse 12) (if_found all (λ me. Grant (Ticket t) (Begin l me)) (Refuse 11))) ≡ begin_ruled free t l
+granted_begin : (free : Option ℕ) (t l : ℕ) → let all = moved (l * 8) free in
+    cond (nobody all) (Refuse Crowded) (cond (eqb t 0) (Refuse Ticketless) (if_found all (λ me. Grant (Ticket t) (Begin l me)) (Refuse Crowded))) ≡ begin_ruled free t l
 unfolding begin_ruled
-granted_begin (At k) t l = refl
-granted_begin Nobody t l = refl
+granted_begin (Some k) t l = refl
+granted_begin None t l = refl
 
 module _ (h : House) (q : Request) where
   -- the checks of the request alone have passed: the rest of the chain decides
   abbrev rest : Ruling
-  rest = chain (drop (length (request_checks q)) (refusals h q)) (past_refusals h q)
+  rest = chain (drop (length (request_checks q)) (reasons h q)) (past_refusals h q)
 
-  undelayed : (who : Found) → q.operation ≡ begin → if_found who (conflict h.cells q) Nobody ≡ Nobody
-  undelayed (At me) o = conflict_never h.cells q me (rw o) (rw o)
-  undelayed Nobody o = refl
+  undelayed : (who : Option ℕ) → q.operation ≡ begin → if_found who (conflict h.cells q) None ≡ None
+  undelayed (Some me) o = conflict_never h.cells q me (rw o) (rw o)
+  undelayed None o = refl
 
-  begin_ruled_lem : q.operation ≡ begin → (free : Found) → vacancy h.places q.level ≡ moved (q.level * 8) free → rest ≡ begin_ruled free (next_at h.next q.level) q.level
+  begin_ruled_lem : q.operation ≡ begin → (free : Option ℕ) → vacancy h.places q.level ≡ moved (q.level * 8) free → rest ≡ begin_ruled free (next_at h.next q.level) q.level
   unfolding tests granted
   begin_ruled_lem o free e = rw (undelayed (asker h q) o, o, e) (granted_begin free (next_at h.next q.level) q.level)
 
-  unknown_ruled : q.operation ≢ begin → asker h q ≡ Nobody → rest ≡ Refuse 6
+  unknown_ruled : q.operation ≢ begin → asker h q ≡ None → rest ≡ Refuse Unknown
   unfolding tests
   unknown_ruled o e = rw (ne_eqb q.operation 0 o, e)
 
-  module _ (me : ℕ) (at : asker h q ≡ At me) where
+  module _ (me : ℕ) (at : asker h q ≡ Some me) where
     abbrev case : Case
     case = made h.count h.order (item_at h.items q.item) (pending_at h.pending q.item) (place_at h.places me) q me
 
@@ -158,15 +147,15 @@ module _ (h : House) (q : Request) where
     unfolding conflict holder_on wants waits_at
     on_written o = simp o (first_some (holds h.cells Write me) (hinders h.cells certify me) 0 64)
 
-    on_none : uses_item q ≡ false → q does certify ≡ false → conflict h.cells q me ≡ Nobody
+    on_none : uses_item q ≡ false → q does certify ≡ false → conflict h.cells q me ≡ None
     on_none = conflict_never h.cells q me
 
     known_ruled_lem : no_operation q ≡ false → q.operation ≢ begin → rest ≡ known_ruled case h.cells
     unfolding tests granted known_ruled read_ruled write_ruled certify_ruled commit_ruled
     known_ruled_lem n b = elim (operation_of q n) [
       | is_begin o ↦ absurd (b o)
-      | is_read o ↦ elim (is lacks) [ inl e ↦ simp (at, o, e) | inr e ↦ simp (at, on_item_lem (rw o) e, o) ]
-      | is_write o ↦ elim (is lacks) [ inl e ↦ simp (at, o, e) | inr e ↦ simp (at, on_item_lem (rw o) e, o) ]
+      | is_read o ↦ elim (cases_Bool lacks) [ inl e ↦ simp (at, o, e) | inr e ↦ simp (at, on_item_lem (rw o) e, o) ]
+      | is_write o ↦ elim (cases_Bool lacks) [ inl e ↦ simp (at, o, e) | inr e ↦ simp (at, on_item_lem (rw o) e, o) ]
       | is_certify o ↦ simp (at, on_written o, o)
       | is_commit o ↦ simp (at, on_none (rw o) (rw o), o)
       | is_abort o ↦ simp (at, on_none (rw o) (rw o), o)
@@ -185,7 +174,7 @@ module _ (q : Request) (me : ℕ) where
       → known_ruled (made count order x v s q me) cells ≡ known_ruled (made count' order' x' v' s' q me) cells'
   case_same c o r p e k =
       rw (c, o, e, k)
-      (elim (is (leb 64 q.item)) [
+      (elim (cases_Bool (leb 64 q.item)) [
         | inl n ↦ row_unseen _ _ _ _ _ _ _ _ n
         | inr b ↦ let a = leb-false 64 q.item b in rw (r a, p a)
       ])
@@ -210,9 +199,9 @@ module _ (v : View) (cells : List ℕ) (q : Request) (h : House) (k : Shown h q 
     unfolding vacancy free_at
     vacancy_eight = find_moved _ _ (q.level * 8) 8 (λ n b. rw (k.places level n b))
 
-    others_shown : q.operation ≢ begin → (who : Found) → seek v.eight 0 q.ticket ≡ who → rest h q ≡ if_found who (λ n. known_ruled (found v q n) cells) (Refuse 6)
-    others_shown o Nobody e = unknown_ruled h q o (seek_eight ∙ rw e)
-    others_shown o (At n) e =
+    others_shown : q.operation ≢ begin → (who : Option ℕ) → seek v.eight 0 q.ticket ≡ who → rest h q ≡ if_found who (λ n. known_ruled (found v q n) cells) (Refuse Unknown)
+    others_shown o None e = unknown_ruled h q o (seek_eight ∙ rw e)
+    others_shown o (Some n) e =
         let b = (seek_at v.eight 0 q.ticket n (omega arith) e).within.level in
         let me = q.level * 8 + n in
         known_ruled_lem h q me (seek_eight ∙ rw e) known o ∙ case_same q me k.count k.order k.row k.pending (k.places level n (omega arith)) k.cells
@@ -224,10 +213,9 @@ module _ (v : View) (cells : List ℕ) (q : Request) (h : House) (k : Shown h q 
     ]
 
   ruled_shown : ruled h q ≡ shown_ruled v cells q
-  unfolding tests shown_ruled
+  unfolding tests ruled shown_ruled
   ruled_shown =
-      ruled_chain h q
-      ∙ unless (no_operation q) _ _ _ (λ a. unless (no_level q) _ _ _ (λ b. unless (unused_set q) _ _ _ (λ c. rest_shown a b)))
+      unless (no_operation q) _ _ _ (λ a. unless (no_level q) _ _ _ (λ b. unless (unused_set q) _ _ _ (λ c. rest_shown a b)))
 
 pub judged : (v : View) (cells : List ℕ) (q : Request) (r : Ruling) → r ≡ shown_ruled v cells q → Judged v cells q r
 unfolding Judged

@@ -1,11 +1,11 @@
 -- What the judge is shown of a house, and its rulings over that alone.
 -- Assumes nothing.
-use Rattle.std.specs.Prelude.{ℕ, ◌+◌, ◌*◌, ◌<◌, ◌≡◌, Bool, true, false, not, cond, ◌&&◌, ◌||◌, List, [], ◌∷◌, eqb, leb}
+use Rattle.std.specs.Prelude.{ℕ, ◌+◌, ◌*◌, ◌<◌, ◌≡◌, Bool, not, cond, ◌&&◌, ◌||◌, List, [], ◌∷◌, eqb, leb, Option, None}
 use Rattle.house.specs.declared.Answer.TheVariants.{Done, Ticket}
-use Rattle.house.specs.declared.Found.{Found}
-use Rattle.house.specs.declared.Found.TheVariants.{Nobody}
 use Rattle.house.specs.declared.House.{House}
 use Rattle.house.specs.declared.Mark.TheVariants.{Write}
+use Rattle.house.specs.declared.Refusal.{Refusal}
+use Rattle.house.specs.declared.Refusal.TheVariants.{NoItem, Forbidden, BlankSheet, Stopped, Untimely, WornOut, Crowded, Ticketless}
 use Rattle.house.specs.declared.Request.{Request}
 use Rattle.house.specs.Search.{any, find, if_found}
 use Rattle.house.specs.Cell.{holds, is_signalled}
@@ -16,7 +16,7 @@ use Rattle.ruling.specs.declared.Change.TheVariants as Change
 use Rattle.ruling.specs.declared.Ruling.{Ruling}
 use Rattle.ruling.specs.declared.Ruling.TheVariants.{Refuse, Wait, Grant}
 use Rattle.ruling.specs.declared.View.{View}
-use Rattle.ruling.specs.Ruling.{ruled}
+use Rattle.ruling.specs.Ruling.{chain, ruled}
 
 -- The judge is shown this view of the house, where the house has such a level and such an item, and all its cells
 pub record Shown (h : House) (q : Request) (v : View) (lent : List ℕ) : Type 0 where
@@ -39,32 +39,27 @@ found v q k = record { request = q; count = v.count; order = v.order; row = v.ro
 -- Operation by operation, past the checks 3, 4, 5 and 6
 
 -- a free place was found at the k-th of the eight, or none
-unfoldable pub begin_ruled : Found → ℕ → ℕ → Ruling
-begin_ruled free ticket l = if_found free (λ k. cond (eqb ticket 0) (Refuse 12) (Grant (Ticket ticket) (Change.Begin l (l * 8 + k)))) (Refuse 11)
-
--- the refusal of the first check that applies, or what is ruled where none does
-abbrev pub chain : List (ℕ × Bool) → Ruling → Ruling
-chain [] g = g
-chain (x ∷ xs) g = cond x.1 (Refuse x.0) (chain xs g)
+unfoldable pub begin_ruled : Option ℕ → ℕ → ℕ → Ruling
+begin_ruled free ticket l = if_found free (λ k. cond (eqb ticket 0) (Refuse Ticketless) (Grant (Ticket ticket) (Change.Begin l (l * 8 + k)))) (Refuse Crowded)
 
 -- who stands in the way on item i, at the lowest place
-abbrev pub lowest_holder : List ℕ → ℕ → ℕ → ℕ → Found
+abbrev pub lowest_holder : List ℕ → ℕ → ℕ → ℕ → Option ℕ
 lowest_holder cells operation me i = find (hinders cells operation me i) 0 32
 
 -- of a certify, on the lowest item written at which somebody does
 unfoldable pub waits_at : List ℕ → ℕ → ℕ → Bool
 waits_at cells me i = holds cells Write me i && any (hinders cells certify me i) 0 32
 
-abbrev pub certify_holder : List ℕ → ℕ → Found
-certify_holder cells me = if_found (find (waits_at cells me) 0 64) (lowest_holder cells certify me) Nobody
+abbrev pub certify_holder : List ℕ → ℕ → Option ℕ
+certify_holder cells me = if_found (find (waits_at cells me) 0 64) (lowest_holder cells certify me) None
 
-abbrev pub read_checks : Case → List ℕ → List (ℕ × Bool)
+abbrev pub read_checks : Case → List ℕ → List (Refusal × Bool)
 read_checks c cells =
     let i = c.request.item in
-    (7, leb c.count i || leb 64 i)
-    ∷ (8, not (dominates c.order c.request.level c.row.level))
-    ∷ (2, is_signalled cells c.me)
-    ∷ (9, is_certified c.seat.standing)
+    (NoItem, leb c.count i || leb 64 i)
+    ∷ (Forbidden, not (dominates c.order c.request.level c.row.level))
+    ∷ (Stopped, is_signalled cells c.me)
+    ∷ (Untimely, is_certified c.seat.standing)
     ∷ []
 
 unfoldable pub read_ruled : Case → List ℕ → Ruling
@@ -74,15 +69,15 @@ read_ruled c cells =
     (if_found (lowest_holder cells read c.me i) Wait
     (Grant (read_answer cells c.row c.pending c.me i) (Change.Read c.me i)))
 
-abbrev pub write_checks : Case → List ℕ → List (ℕ × Bool)
+abbrev pub write_checks : Case → List ℕ → List (Refusal × Bool)
 write_checks c cells =
     let i = c.request.item in
-    (7, leb c.count i || leb 64 i)
-    ∷ (8, not (eqb c.row.level c.request.level))
-    ∷ (15, eqb c.request.value 0)
-    ∷ (2, is_signalled cells c.me)
-    ∷ (9, is_certified c.seat.standing)
-    ∷ (10, leb 4294967295 c.row.version)
+    (NoItem, leb c.count i || leb 64 i)
+    ∷ (Forbidden, not (eqb c.row.level c.request.level))
+    ∷ (BlankSheet, eqb c.request.value 0)
+    ∷ (Stopped, is_signalled cells c.me)
+    ∷ (Untimely, is_certified c.seat.standing)
+    ∷ (WornOut, leb 4294967295 c.row.version)
     ∷ []
 
 unfoldable pub write_ruled : Case → List ℕ → Ruling
@@ -92,8 +87,8 @@ write_ruled c cells =
     (if_found (lowest_holder cells write c.me i) Wait
     (Grant Done (Change.Write c.me i c.request.value)))
 
-abbrev pub certify_checks : Case → List ℕ → List (ℕ × Bool)
-certify_checks c cells = (2, is_signalled cells c.me) ∷ (9, is_certified c.seat.standing) ∷ []
+abbrev pub certify_checks : Case → List ℕ → List (Refusal × Bool)
+certify_checks c cells = (Stopped, is_signalled cells c.me) ∷ (Untimely, is_certified c.seat.standing) ∷ []
 
 unfoldable pub certify_ruled : Case → List ℕ → Ruling
 certify_ruled c cells =
@@ -101,11 +96,11 @@ certify_ruled c cells =
     (if_found (certify_holder cells c.me) Wait
     (Grant Done (Change.Certify c.me)))
 
-abbrev pub commit_checks : Case → List ℕ → List (ℕ × Bool)
-commit_checks c cells = (2, is_signalled cells c.me) ∷ (9, is_active c.seat.standing) ∷ []
+abbrev pub commit_checks : Case → List ℕ → List (Refusal × Bool)
+commit_checks c cells = (Stopped, is_signalled cells c.me) ∷ (Untimely, is_active c.seat.standing) ∷ []
 
 unfoldable pub commit_ruled : Case → List ℕ → Ruling
-commit_ruled c cells = chain (commit_checks c cells) (Grant Done (Change.End c.me true))
+commit_ruled c cells = chain (commit_checks c cells) (Grant Done (Change.Commit c.me))
 
 unfoldable pub known_ruled : Case → List ℕ → Ruling
 known_ruled c cells =
@@ -113,5 +108,5 @@ known_ruled c cells =
     (cond (c.request does write) (write_ruled c cells)
     (cond (c.request does certify) (certify_ruled c cells)
     (cond (c.request does commit) (commit_ruled c cells)
-    (cond (c.request does abort) (Grant Done (Change.End c.me false))
+    (cond (c.request does abort) (Grant Done (Change.Abort c.me))
     (Grant (ask_answer cells c.me) Change.Nothing)))))

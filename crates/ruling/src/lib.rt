@@ -3,7 +3,7 @@
 
 #![tactic(auto)]
 
-use house::{Answer, Item, Place, Request};
+use house::{Answer, Item, Place, Refusal, Request};
 
 // What specs/Ruling.antt (`effect`) makes of a house.
 #[derive(Clone, Copy)]
@@ -17,17 +17,20 @@ pub enum Change {
     Write(usize, usize, u32),
     // the place
     Certify(usize),
-    // the place, and whether it commits
-    End(usize, bool),
+    // the place
+    Commit(usize),
+    // the place
+    Abort(usize),
 }
 
+// An enum of its own and no `Result`: that would take a struct for what is granted, an enum for the other two and a `From` between the
+// refusals, and, to save the `return` of each check by `?`, a call around each test.
 #[derive(Clone, Copy)]
 pub enum Ruling {
     Grant(Answer, Change),
     // the holder's place. It may be of a level that the judge is not shown, so the holder is named where the house is
     Wait(usize),
-    // the number
-    Refuse(u8),
+    Refuse(Refusal),
 }
 
 // What the judge is shown of a house, beside its cells: the order of the levels, of the request's level the eight places and the next
@@ -42,7 +45,8 @@ pub struct View {
     pub pending: u32,
 }
 
-// A request whose transaction was found: it stands at place `me`, whose row is `seat`.
+// A request whose transaction was found, with what is looked at of the view, which brings eight places more. It holds no fact,
+// since `found` makes one of any place: it stands at place `me`, whose row is `seat`.
 #[derive(Clone, Copy)]
 pub struct Case {
     pub request: Request,

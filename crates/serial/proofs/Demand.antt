@@ -13,7 +13,8 @@ use Rattle.house.specs.declared.Rule.{Rule}
 use Rattle.house.specs.Rules.{commit, stepped}
 use Rattle.house.specs.Opening.{opening}
 use Rattle.house.specs.Run.{finally, done, Name}
-use Rattle.house.proofs.Tests.{is, clash}
+use Rattle.std.proofs.lemmas.Bool.{cases_Bool}
+use Rattle.house.proofs.Tests.{clash}
 use Rattle.house.proofs.Lists.{map_from_same}
 use Rattle.reach.proofs.Law.{clear_law}
 use Rattle.reach.proofs.Opened.{opening_has, opening_free}
@@ -52,17 +53,17 @@ known {h = h} {past = past} I (q ∷ qs) = known {h = (stepped h q).house} {past
 work_append : (n : Name) (xs ys : List Event) → work n (xs ++ ys) ≡ work n xs ++ work n ys
 unfolding work
 work_append n [] ys = refl
-work_append n (e ∷ xs) ys = elim (is (doing n e)) [ inl x ↦ rw x (ap (λ l. e ∷ l) (work_append n xs ys)) | inr x ↦ rw x (work_append n xs ys) ]
+work_append n (e ∷ xs) ys = elim (cases_Bool (doing n e)) [ inl x ↦ rw x (ap (λ l. e ∷ l) (work_append n xs ys)) | inr x ↦ rw x (work_append n xs ys) ]
 
 commits_append : (xs ys : List Event) → commits (xs ++ ys) ≡ commits xs ++ commits ys
 unfolding commits
 commits_append [] ys = refl
-commits_append (e ∷ xs) ys = elim (is (done e commit)) [ inl x ↦ rw x (ap (λ l. name e ∷ l) (commits_append xs ys)) | inr x ↦ rw x (commits_append xs ys) ]
+commits_append (e ∷ xs) ys = elim (cases_Bool (done e commit)) [ inl x ↦ rw x (ap (λ l. name e ∷ l) (commits_append xs ys)) | inr x ↦ rw x (commits_append xs ys) ]
 
 answers_append : (xs ys : List Event) → answers (xs ++ ys) ≡ answers xs ++ answers ys
 unfolding answers
 answers_append [] ys = refl
-answers_append (e ∷ xs) ys = elim (is (wrote e)) [ inl x ↦ rw x (answers_append xs ys) | inr x ↦ rw x (ap (λ l. answer e ∷ l) (answers_append xs ys)) ]
+answers_append (e ∷ xs) ys = elim (cases_Bool (wrote e)) [ inl x ↦ rw x (answers_append xs ys) | inr x ↦ rw x (ap (λ l. answer e ∷ l) (answers_append xs ys)) ]
 
 map_append : {A B : Type 0} (f : A → B) (xs ys : List A) → map f (xs ++ ys) ≡ map f xs ++ map f ys
 map_append f [] ys = refl
@@ -73,7 +74,7 @@ unfolding doings work
 work_reverse n [] = refl
 work_reverse n (e ∷ past) =
     rw (reverse-cons e past, work_append n (reverse past) (e ∷ []))
-    (elim (is (doing n e)) [
+    (elim (cases_Bool (doing n e)) [
       | inl x ↦ rw (x, work_reverse n past) (sym (reverse-cons e (doings n past)))
       | inr x ↦ rw (x, work_reverse n past) (append-nil _)
     ])
@@ -88,7 +89,7 @@ look_shown : (own : Past) (i : ℕ) (r : Row) → look (written own) i r ≡ sho
 unfolding look written shown
 look_shown [] i r = refl
 look_shown (e ∷ own) i r =
-    elim (is (wrote e)) [
+    elim (cases_Bool (wrote e)) [
       | inl x ↦ rw x (ap (λ y. cond (eqb e.0.item i) (e.0.value, r.1 + 1) y) (look_shown own i r))
       | inr x ↦ rw x (look_shown own i r)
     ]
@@ -106,7 +107,7 @@ unfolding written answers
 run_reverse t [] es r = refl
 run_reverse t (e ∷ own) es r =
     run_reverse t own (e ∷ es) r.1
-    ∙ elim (is (wrote e)) [
+    ∙ elim (cases_Bool (wrote e)) [
       | inl x ↦ rw (reverse-cons e own, answers_append (reverse own) (e ∷ []), run_write t (written own) e es x, x) (rw (append-nil (answers (reverse own))))
       | inr x ↦
           rw (reverse-cons e own, answers_append (reverse own) (e ∷ []), run_read t (written own) e es x, x)
@@ -132,7 +133,7 @@ unfolding commits serially serial
 serially_past t h whole [] c s = refl
 serially_past t h whole (e ∷ past) c s =
     rw (reverse-cons e past, commits_append (reverse past) (e ∷ []))
-    (elim (is (done e commit)) [
+    (elim (cases_Bool (done e commit)) [
       | inl x ↦
           let n : Name = name e in
           let own : Past = doings n past in

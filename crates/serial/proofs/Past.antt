@@ -11,7 +11,8 @@ use borrow.Author.Tests.{eqb-true}
 use Rattle.house.specs.Search.{map_from}
 use Rattle.house.specs.Rules.{read, write, commit}
 use Rattle.house.specs.Run.{done, Name}
-use Rattle.house.proofs.Tests.{is, clash, refuted, and_true}
+use Rattle.std.proofs.lemmas.Bool.{cases_Bool, false_from_ne_true, and_parts}
+use Rattle.house.proofs.Tests.{clash}
 use Rattle.serial.specs.Demand.{Event, wrote, name, doing, Row, Table, answer}
 
 abbrev pub Past : Type 0
@@ -71,12 +72,12 @@ module _ (t : Table) (e : Event) (past : Past) where
 doing_name : (n : Name) (e : Event) → doing n e ≡ true → (e.0.level ≡ n.0) × (e.0.ticket ≡ n.1)
 unfolding doing
 doing_name n e x =
-    let k = and_true (eqb e.0.level n.0 && eqb e.0.ticket n.1) _ x in
-    let m = and_true (eqb e.0.level n.0) _ k.0 in
+    let k = and_parts (eqb e.0.level n.0 && eqb e.0.ticket n.1) _ x in
+    let m = and_parts (eqb e.0.level n.0) _ k.0 in
     (eqb-true _ _ m.0, eqb-true _ _ m.1)
 
 pub doing_other : (n : Name) (e : Event) → (e.0.level ≡ n.0 → e.0.ticket ≡ n.1 → ⊥) → doing n e ≡ false
-doing_other n e d = refuted _ (λ x. let k = doing_name n e x in d k.0 k.1)
+doing_other n e d = false_from_ne_true _ (λ x. let k = doing_name n e x in d k.0 k.1)
 
 -- other operations, and refusals, are neither
 unfoldable pub quiet : Event → Bool
@@ -85,7 +86,7 @@ quiet e = not (done e read || done e write)
 pub doing_quiet : (n : Name) (e : Event) → quiet e ≡ true → doing n e ≡ false
 unfolding quiet doing
 doing_quiet n e z =
-    elim (is (done e read || done e write)) [
+    elim (cases_Bool (done e read || done e write)) [
       | inl x ↦ clash z (rw x)
-      | inr x ↦ rw x (elim (is (eqb e.0.level n.0 && eqb e.0.ticket n.1)) [ inl y ↦ rw y | inr y ↦ rw y ])
+      | inr x ↦ rw x (elim (cases_Bool (eqb e.0.level n.0 && eqb e.0.ticket n.1)) [ inl y ↦ rw y | inr y ↦ rw y ])
     ]

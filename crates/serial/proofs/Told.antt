@@ -20,7 +20,8 @@ use Rattle.house.specs.Search.{map_from}
 use Rattle.house.specs.Cell.{has, cell_at, holds, is_signalled}
 use Rattle.house.specs.House.{blank, item_at, pending_at}
 use Rattle.house.specs.Rules.{read, write, grown, begun, read_by, read_answer, read_for, written_by, certified_by, left, committed_item, committed_by, aborted_by, replied}
-use Rattle.house.proofs.Tests.{is, same, clash, refuted}
+use Rattle.std.proofs.lemmas.Bool.{cases_Bool, false_from_ne_true}
+use Rattle.house.proofs.Tests.{same, clash}
 use Rattle.house.proofs.Holders.{unsignalled}
 use Rattle.house.proofs.Effects.{written_pending, written_pending_other}
 use Rattle.reach.proofs.Law.{held, held_write, held_certify, Law, Frame, clear_held, held_kept}
@@ -58,7 +59,7 @@ module _ {h h' : House} {me : ℕ} (L : Law h) (F : Frame h h' me) (p : ℕ) (b 
           locked = s.reading ∙ k.locked;
           stands = λ f.
               rw (F.row p e.0.item b k.item n k.locked f)
-              (elim (is (has Signalled (cell_at h.cells p e.0.item))) [ inl g ↦ clash (s.signal g) f | inr g ↦ k.stands g ]);
+              (elim (cases_Bool (has Signalled (cell_at h.cells p e.0.item))) [ inl g ↦ clash (s.signal g) f | inr g ↦ k.stands g ]);
         }),
     vouches_kept own v.1,
   )
@@ -68,7 +69,7 @@ module _ {h h' : House} {me : ℕ} (L : Law h) (F : Frame h h' me) (p : ℕ) (b 
       record {
         writes = λ i a r.
             k.writes i a r
-            ∙ elim (is (held (cell_at h.cells p i))) [ inl g ↦ rw (held_kept L F p i b a n, (F.item p i b a n g).1) | inr g ↦ rw (held_kept L F p i b a n, g) ];
+            ∙ elim (cases_Bool (held (cell_at h.cells p i))) [ inl g ↦ rw (held_kept L F p i b a n, (F.item p i b a n g).1) | inr g ↦ rw (held_kept L F p i b a n, g) ];
         reads = vouches_kept own k.reads;
       }
 
@@ -105,7 +106,7 @@ module _ {h : House} {me : ℕ} (L : Law h) (q : Request) (op : q.operation ≡ 
   read_answer_lem =
       let x = item_at h.items q.item in
       k.writes q.item K.row (row x)
-      ∙ elim (is (has Write (cell_at h.cells me q.item))) [
+      ∙ elim (cases_Bool (has Write (cell_at h.cells me q.item))) [
         | inl w ↦ rw (w, lt-ltb x.version 4294967295 ((L.cells me q.item K.place K.row).room (held_write _ w)))
         | inr w ↦ rw (w, uncertified L K.place K.active q.item K.row)
       ]
@@ -123,7 +124,7 @@ module _ {h : House} {me : ℕ} (L : Law h) (q : Request) (op : q.operation ≡ 
                 stands = λ s. read_answer_lem;
               }),
           vouches_mine h (read_by h me q.item) me
-              (λ j a r. read_mine L K Read j a ∙ elim (is (eqb j q.item)) [ inl e ↦ rw e | inr e ↦ rw e r ])
+              (λ j a r. read_mine L K Read j a ∙ elim (cases_Bool (eqb j q.item)) [ inl e ↦ rw e | inr e ↦ rw e r ])
               (λ j a. read_mine L K Signalled j a) (λ j a. refl) own k.reads,
         );
       }
@@ -195,8 +196,8 @@ module _ {h : House} {me : ℕ} (L : Law h) (K : MayCommit h me) (own : Past) (k
   committed_shown i a =
       let x = item_at h.items i in
       let c = cell_at h.cells me i in
-      let none : has Write c ≡ false = refuted _ (λ w. clash ((L.cells me i K.place a).writing w) (rw K.certified)) in
-      elim (is (has Certify c)) [
+      let none : has Write c ≡ false = false_from_ne_true _ (λ w. clash ((L.cells me i K.place a).writing w) (rw K.certified)) in
+      elim (cases_Bool (has Certify c)) [
         | inl y ↦ simp (y, lt-ltb x.version 4294967295 ((L.cells me i K.place a).room (held_certify _ y))) (sym (k.writes i a (row x) ∙ rw (none, y)))
         | inr y ↦ rw y (sym (k.writes i a (row x) ∙ rw (none, y)))
       ]

@@ -15,9 +15,9 @@ use Rattle.house.specs.declared.Rule.TheVariants.{A}
 use Rattle.house.specs.Search.{map_from}
 use Rattle.house.specs.House.{blank}
 use Rattle.house.specs.Order.{old_chain}
-use Rattle.house.specs.Opening.{row_at, rows, opened, opening}
+use Rattle.house.specs.Opening.{number_of, row_at, rows, opened, opening}
 use Rattle.house.specs.Run.{replies}
-use Rattle.house.proofs.Tests.{is}
+use Rattle.std.proofs.lemmas.Bool.{cases_Bool}
 use Rattle.wire.specs.Wire.{reply_at, reply_bytes}
 use Rattle.desk.specs.Turn.{requests, wired}
 use Rattle.desk.proofs.Laws.{length_wired}
@@ -91,9 +91,9 @@ programmed_equal : (input : List ℕ) → Bytes input → Equal (seen input (pro
 unfolding programmed
 programmed_equal input s =
     let o = opening_of input in
-    elim (is (eqb o.number 0)) [
+    elim (cases_Bool (eqb (number_of o) 0)) [
       | inl z ↦ rw z (opened_equal input (levels input) (table_of input) s)
-      | inr z ↦ rw z (refused_equal input o.number (levels input) (table_of input) (eqb-false o.number 0 z))
+      | inr z ↦ rw z (refused_equal input (number_of o) (levels input) (table_of input) (eqb-false (number_of o) 0 z))
     ]
 
 pub over_pieces : OverPieces

@@ -9,8 +9,7 @@ use mathlib.Core.List.{List, []}
 use lib.ListN.{length, get_or}
 use lib.Dec.{ltb}
 use borrow.Author.Tests.{ltb-true}
-use Rattle.house.specs.declared.Found.{Found}
-use Rattle.house.specs.declared.Found.TheVariants.{At, Nobody}
+use Rattle.std.specs.Prelude.{Option, Some, None}
 use Rattle.house.specs.declared.House.{House}
 use Rattle.house.specs.declared.Item.{Item}
 use Rattle.house.specs.declared.Mark.TheVariants.{Write, Certify, Signalled}
@@ -24,7 +23,8 @@ use Rattle.house.specs.House.{Sizes, item_at, pending_at, place_at, next_at}
 use Rattle.house.specs.Rules.{commit, ticket_after, grown, begun, read_by, read_answer, read_for, written_by, wrote, signalled, certified_by, dropped_pending, left, committed_item, committed_by, ask_answer, said, replied, stepped}
 use Rattle.house.specs.Order.{old_chain}
 use Rattle.house.specs.Opening.{opened, opening}
-use Rattle.house.proofs.Tests.{is, same}
+use Rattle.std.proofs.lemmas.Bool.{cases_Bool}
+use Rattle.house.proofs.Tests.{same}
 use Rattle.house.proofs.Searches.{find_below}
 use Rattle.house.proofs.Holders.{holder_at}
 use Rattle.house.proofs.Levels.{old_chain_long}
@@ -50,32 +50,32 @@ pub record Fits (h : House) : Type 0 where
 
 after_fits : (t : ℕ) → ticket_after t < 4294967296
 unfolding ticket_after
-after_fits t = elim (is (ltb t 4294967295)) [ inl y ↦ rw y (omega (arith, ltb-true t 4294967295 y)) | inr n ↦ rw n (omega arith) ]
+after_fits t = elim (cases_Bool (ltb t 4294967295)) [ inl y ↦ rw y (omega (arith, ltb-true t 4294967295 y)) | inr n ↦ rw n (omega arith) ]
 
 grown_fits : (v : ℕ) → v < 4294967296 → grown v < 4294967296
 unfolding grown
-grown_fits v b = elim (is (ltb v 4294967295)) [ inl y ↦ rw y (omega (arith, ltb-true v 4294967295 y)) | inr n ↦ rw n b ]
+grown_fits v b = elim (cases_Bool (ltb v 4294967295)) [ inl y ↦ rw y (omega (arith, ltb-true v 4294967295 y)) | inr n ↦ rw n b ]
 
 count_fits : (f : ℕ → Bool) (k n : ℕ) → count f k n ≤ n
 unfolding scan
 count_fits f k zero = omega arith
 count_fits f k (suc n) =
     let r = count_fits f (suc k) n in
-    elim (is (f k)) [ inl y ↦ rw y (omega arith) | inr y ↦ rw y (omega arith) ]
+    elim (cases_Bool (f k)) [ inl y ↦ rw y (omega arith) | inr y ↦ rw y (omega arith) ]
 
 -- What becomes of an item at a commit, and of a pending value at either end
 
 item_fits : (cells pending : List ℕ) (me i : ℕ) (x : Item) → pending_at pending i < 4294967296 → FitItem x → FitItem (committed_item cells pending me i x)
 unfolding committed_item
 item_fits cells pending me i x v f =
-    elim (is (holds cells Certify me i)) [
+    elim (cases_Bool (holds cells Certify me i)) [
       | inl y ↦ rw y (record { value = v; version = grown_fits x.version f.version })
       | inr n ↦ rw n f
     ]
 
 dropped_fits : (cells : List ℕ) (me i v : ℕ) → v < 4294967296 → dropped_pending cells me i v < 4294967296
 unfolding dropped_pending
-dropped_fits cells me i v b = elim (is (wrote cells me i)) [ inl y ↦ rw y (omega arith) | inr n ↦ rw n b ]
+dropped_fits cells me i v b = elim (cases_Bool (wrote cells me i)) [ inl y ↦ rw y (omega arith) | inr n ↦ rw n b ]
 
 module _ {h : House} (f : Fits h) where
   -- one place changed
@@ -143,10 +143,10 @@ module _ {h : House} (f : Fits h) where
 
 -- What is answered
 
-first_fits : (cells : List ℕ) (me : ℕ) (who : Found) → first_signalled cells me ≡ who → if_found who (λ i. i) 0 < 65536
+first_fits : (cells : List ℕ) (me : ℕ) (who : Option ℕ) → first_signalled cells me ≡ who → if_found who (λ i. i) 0 < 65536
 unfolding first_signalled
-first_fits cells me (At p) e = let b = find_below (holds cells Signalled me) 0 64 p e in omega arith
-first_fits cells me Nobody e = omega arith
+first_fits cells me (Some p) e = let b = find_below (holds cells Signalled me) 0 64 p e in omega arith
+first_fits cells me None e = omega arith
 
 -- one request more
 module _ {h : House} (f : Fits h) (q : Request) (k : FitRequest q) where
@@ -160,7 +160,7 @@ module _ {h : House} (f : Fits h) (q : Request) (k : FitRequest q) where
   unfolding read_answer
   read_answer_lem me a =
       let x = f.items q.item a in
-      elim (is (holds h.cells Write me q.item)) [
+      elim (cases_Bool (holds h.cells Write me q.item)) [
         | inl y ↦ rw y (record { item = k.item; ticket = k.ticket; value = f.pending q.item a; version = grown_fits _ x.version })
         | inr n ↦ rw n (record { item = k.item; ticket = k.ticket; value = x.value; version = x.version })
       ]

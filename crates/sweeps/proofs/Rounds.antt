@@ -1,24 +1,32 @@
 -- What a sweep does to the one cell or item of a round, and to all others.
 -- Assumes nothing.
-use Prim.Native.Nat.{ℕ, zero, suc, ◌+◌, ◌*◌, ◌/◌, ◌%◌, ◌<◌, ◌≤◌}
+use Rattle.std.proofs.Math.Bool.{and-false}
+use Prim.Native.Nat.{ℕ, zero, suc, ◌+◌, ◌-◌, ◌*◌, ◌/◌, ◌%◌, ◌<◌, ◌≤◌}
 use native.Mathlib.Omega.{arith}
-use mathlib.Core.Path.{◌≡◌, refl, sym, ◌∙◌}
+use mathlib.Core.Path.{◌≡◌, refl, sym, ap, ◌∙◌}
 use mathlib.Core.Logic.{◌≢◌, inl, inr}
 use mathlib.Core.Bool.{Bool, true, false, ◌||◌, not, cond}
-use mathlib.Core.List.{List, [], ◌∷◌, map}
-use lib.ListN.{length, get_or, set}
+use mathlib.Core.List.{List, [], ◌∷◌, ◌++◌, map}
+use lib.ListN.{length, get_or, set, take, drop, replicate, get_or-append}
+use lib.Seq.{ext_get_or}
+use borrow.Rule.Slice.PartMut.{put_mid}
+use Rattle.std.proofs.Common.{length-take-le, length-drop, length-append}
+use Rattle.std.proofs.lemmas.List.{length-replicate, get_or-replicate, get_or-append_right, get_or-take, get_or-drop}
 use lib.Dec.{eqb, ltb}
-use borrow.Author.Tests.{eq-eqb, ne_eqb, lt-ltb, le-ltb, ltb-true}
+use borrow.Author.Tests.{eq-eqb, ne_eqb, lt-ltb, le-ltb, ltb-true, ltb-false}
 use Rattle.house.specs.declared.Item.{Item}
 use Rattle.house.specs.declared.Mark.TheVariants.{Read, Write, Certify, Signalled}
 use Rattle.house.specs.Search.{any, map_from}
 use Rattle.house.specs.Cell.{has, marked, unmarked, cell_at, holds, map_cells}
 use Rattle.house.specs.House.{above, level_of, blank}
 use Rattle.house.specs.Rules.{wrote, signalled_cell, converted_cell, cleared_cell, committed_item, dropped_pending, grown}
-use Rattle.house.proofs.Tests.{is, same, and_no, or_false, not_is}
+use Rattle.std.proofs.lemmas.Bool.{cases_Bool, or_parts, not-false}
+use Rattle.house.proofs.Tests.{same}
 use Rattle.house.proofs.Searches.{any_none}
-use Rattle.house.proofs.Lists.{map_from_kept, Sofar, sofar_set, sofar_skip, sofar_map, sofar_still, sofar_all}
+use Rattle.house.proofs.Lists.{get_or_map_from, length_map_from, map_from_kept, Sofar, sofar_set, sofar_skip, sofar_map, sofar_all}
 use Rattle.house.proofs.Cells.{place_of, item_of}
+use Rattle.parts.proofs.Scans.{own_long, own_at}
+use Rattle.parts.proofs.Scans.{own as lent}
 use Rattle.sweeps.specs.Sweep.{of_house, swept, on_item, signalled_from}
 
 -- the n-th cell through f, if it is of a place that a house has
@@ -88,7 +96,7 @@ module _ (f : ℕ → Bool) (i l : ℕ) where
   level_here : (n x : ℕ) → n / 64 / 8 ≡ l → cellwise (on_item i (signalled_from f)) n x ≡ cond (f l) (cellwise (on_item i (signalled_from (eqb l))) n x) x
   unfolding of_house on_item signalled_from
   level_here n x e =
-      elim (is (f l)) [
+      elim (cases_Bool (f l)) [
         | inl y ↦ rw (e, y, eq-eqb l l refl)
         | inr y ↦ rw y (kept (on_item i (signalled_from f)) n x (rw (e, y) (either_way (eqb (n % 64) i) x)))
       ]
@@ -108,7 +116,7 @@ unclaimed cells me e i b = any_none (wrote cells me) 0 64 e i (omega arith) (ome
 
 pub uncertified : (cells : List ℕ) (me i : ℕ) → wrote cells me i ≡ false → holds cells Certify me i ≡ false
 unfolding wrote
-uncertified cells me i e = (or_false (holds cells Write me i) (holds cells Certify me i) e).1
+uncertified cells me i e = (or_parts (holds cells Write me i) (holds cells Certify me i) e).1
 
 -- Giving signals: round i handles the cells of item i, all at once if the item is written
 
@@ -120,27 +128,27 @@ looked_up f (suc (suc zero)) h = refl
 looked_up f (suc (suc (suc zero))) h = refl
 looked_up f (suc (suc (suc (suc k)))) h = absurd (omega arith)
 
-module _ (order old : List ℕ) (me i : ℕ) (over : List Bool) (looked : over ≡ map (λ l. above order l (level_of me)) (0 ∷ 1 ∷ 2 ∷ 3 ∷ [])) (b : i < 64) {cells : List ℕ} (s : Sofar 0 (λ n. n % 64) (cellwise (signalled_cell true order old me)) i old cells) where
+-- the cell of the item is read off the copy of the own ones
+module _ (order old part own : List ℕ) (me i : ℕ) (over : List Bool) (looked : over ≡ map (λ l. above order l (level_of (me % 32))) (0 ∷ 1 ∷ 2 ∷ 3 ∷ [])) (long : length old ≡ 2048) (is_part : part ≡ lent old me) (copied : own ≡ part) (b : i < 64) {cells : List ℕ} (s : Sofar 0 (λ n. n % 64) (cellwise (signalled_cell true order old (me % 32))) i old cells) where
   abbrev c : ℕ
-  c = get_or cells (me * 64 + i) 0
+  c = get_or own i 0
 
-  -- the cell that says whether the item is written has not been reached
-  still : c ≡ get_or old (me * 64 + i) 0
-  still = sofar_still _ _ _ _ s (me * 64 + i) (omega arith)
+  still : c ≡ get_or old (me % 32 * 64 + i) 0
+  still = rw (copied, is_part) (own_at old me long i b)
 
-  item_here : (n x : ℕ) → n % 64 ≡ i → cellwise (signalled_cell true order old me) n x ≡ cond (has Write c || has Certify c) (cellwise (on_item i (signalled_from (λ l. get_or over l false))) n x) x
+  item_here : (n x : ℕ) → n % 64 ≡ i → cellwise (signalled_cell true order old (me % 32)) n x ≡ cond (has Write c || has Certify c) (cellwise (on_item i (signalled_from (λ l. get_or over l false))) n x) x
   unfolding of_house on_item signalled_cell signalled_from wrote holds cell_at
   item_here n x e =
-      elim (is (has Write (get_or old (me * 64 + i) 0) || has Certify (get_or old (me * 64 + i) 0))) [
-        | inl y ↦ elim (is (ltb (n / 64) 32)) [
-          | inl h ↦ rw (e, still, y, h, eq-eqb i i refl, looked, looked_up (λ l. above order l (level_of me)) (n / 64 / 8) (omega (arith, ltb-true)))
+      elim (cases_Bool (has Write (get_or old (me % 32 * 64 + i) 0) || has Certify (get_or old (me % 32 * 64 + i) 0))) [
+        | inl y ↦ elim (cases_Bool (ltb (n / 64) 32)) [
+          | inl h ↦ rw (e, still, y, h, eq-eqb i i refl, looked, looked_up (λ l. above order l (level_of (me % 32))) (n / 64 / 8) (omega (arith, ltb-true)))
           | inr h ↦ rw (e, still, y, h)
         ]
         | inr y ↦ rw (e, still, y) (either_way (ltb (n / 64) 32) x)
       ]
 
   pub signalled_item : (test : Bool) → test ≡ (has Write c || has Certify c) → (new : List ℕ) → new ≡ cond test (swept (on_item i (signalled_from (λ l. get_or over l false))) cells) cells
-      → Sofar 0 (λ n. n % 64) (cellwise (signalled_cell true order old me)) (i + 1) old new
+      → Sofar 0 (λ n. n % 64) (cellwise (signalled_cell true order old (me % 32))) (i + 1) old new
   signalled_item test t new e = round _ _ _ i (has Write c || has Certify c) s item_here (elsewhere i _) new (rw t at e)
 
 module _ (gives : Bool) (order old : List ℕ) (me : ℕ) where
@@ -151,7 +159,7 @@ module _ (gives : Bool) (order old : List ℕ) (me : ℕ) where
 
   pub none_written : any (wrote old me) 0 64 ≡ false → old ≡ swept (signalled_cell gives order old me) old
   unfolding signalled_cell
-  none_written e = untouched _ old (λ p i c a. rw (unclaimed old me e i a, and_no gives))
+  none_written e = untouched _ old (λ p i c a. rw (unclaimed old me e i a, and-false gives))
 
 -- 64 rounds over the items are all
 pub all_cells : (f : ℕ → ℕ → ℕ → ℕ) (N : ℕ) (old new : List ℕ) → Sofar 0 (λ n. n % 64) (cellwise f) N old new → 64 ≤ N → new ≡ swept f old
@@ -160,30 +168,69 @@ all_cells f N old new s h = sofar_all _ _ _ N s (λ n b. omega arith)
 
 pub all_given : (gives : Bool) (order old : List ℕ) (me N : ℕ) (new : List ℕ) → not gives ≡ false
     → Sofar 0 (λ n. n % 64) (cellwise (signalled_cell true order old me)) N old new → 64 ≤ N → new ≡ swept (signalled_cell gives order old me) old
-all_given gives order old me N new g s h = rw (not_is gives g) (all_cells _ N old new s h)
+all_given gives order old me N new g s h = rw (not-false gives g) (all_cells _ N old new s h)
 
--- Sweeping the own cells: round i handles the cells of item i. What becomes of that of `me` is stored; f leaves all others
+-- Sweeping the own cells, which f changes alone. They lie together, and `own` is what becomes of them
 
-pub below : (me : ℕ) → me % 32 < 32
-below me = omega arith
+module _ (f : ℕ → ℕ → ℕ → ℕ) (cells own : List ℕ) (me : ℕ) (long : length cells ≡ 2048) (size : length own ≡ 64) where
+  abbrev all : List ℕ
+  all = put_mid (me % 32 * 64) (me % 32 * 64 + 64 - me % 32 * 64) cells own
 
-module _ (me i : ℕ) (h : me < 32) (a : i < 64) {old cells : List ℕ} where
-  own_one : (f : ℕ → ℕ → ℕ → ℕ) (v : ℕ) → Sofar 0 (λ n. n % 64) (cellwise f) i old cells → ((p j c : ℕ) → p ≢ me → f p j c ≡ c) → v ≡ f me i (get_or cells (me * 64 + i) 0)
-      → Sofar 0 (λ n. n % 64) (cellwise f) (i + 1) old (set cells (me * 64 + i) v)
-  own_one f v s others e =
-      sofar_set _ _ _ i (me * 64 + i) v s (item_of me i a)
-      (e ∙ sym (within f (me * 64 + i) _ (omega arith) ∙ rw (place_of me i a, item_of me i a)))
-      (λ n b k ne. kept f n _ (others (n / 64) (n % 64) _ (λ p. ne (omega arith))))
+  front : length (take (me % 32 * 64) cells) ≡ me % 32 * 64
+  front = length-take-le (me % 32 * 64) cells (omega arith)
 
-  pub converted_one : (v : ℕ) → Sofar 0 (λ n. n % 64) (cellwise (converted_cell me)) i old cells
-      → v ≡ cond (has Write (get_or cells (me * 64 + i) 0)) (marked Certify (unmarked Write (get_or cells (me * 64 + i) 0))) (get_or cells (me * 64 + i) 0)
-      → Sofar 0 (λ n. n % 64) (cellwise (converted_cell me)) (i + 1) old (set cells (me * 64 + i) v)
-  unfolding converted_cell
-  converted_one v s e = own_one (converted_cell me) v s (λ p j c d. rw (ne_eqb p me d)) (rw (eq-eqb me me refl) e)
+  mine : (n : ℕ) → n / 64 ≡ me % 32 → get_or all n 0 ≡ get_or own (n % 64) 0
+  mine n e =
+      let at : n - me % 32 * 64 ≡ n % 64 = omega arith in
+      get_or-append_right (take (me % 32 * 64) cells) _ _ n 0 front (omega arith) ∙ rw at (get_or-append own _ 0 (n % 64) (omega arith))
 
-  pub cleared_one : Sofar 0 (λ n. n % 64) (cellwise (cleared_cell me)) i old cells → Sofar 0 (λ n. n % 64) (cellwise (cleared_cell me)) (i + 1) old (set cells (me * 64 + i) 0)
-  unfolding cleared_cell
-  cleared_one s = own_one (cleared_cell me) 0 s (λ p j c d. rw (ne_eqb p me d)) (rw (eq-eqb me me refl))
+  other : (n : ℕ) → n / 64 ≢ me % 32 → get_or all n 0 ≡ get_or cells n 0
+  other n d =
+      elim (cases_Bool (ltb n (me % 32 * 64))) [
+        | inl y ↦ let b = ltb-true n (me % 32 * 64) y in get_or-append (take (me % 32 * 64) cells) _ 0 n (omega (arith, front)) ∙ get_or-take (me % 32 * 64) cells n 0 b
+        | inr y ↦
+            let b = ltb-false n (me % 32 * 64) y in
+            get_or-append_right (take (me % 32 * 64) cells) _ _ n 0 front b
+            ∙ get_or-append_right own _ 64 (n - me % 32 * 64) 0 size (omega arith)
+            ∙ get_or-drop _ (drop (me % 32 * 64) cells) _ 0 ∙ get_or-drop (me % 32 * 64) cells _ 0
+            ∙ (let e : me % 32 * 64 + (me % 32 * 64 + 64 - me % 32 * 64 + (n - me % 32 * 64 - 64)) ≡ n = omega arith in rw e)
+      ]
+
+  pub own_swept : ((p j c : ℕ) → p ≢ me % 32 → f p j c ≡ c) → ((i : ℕ) → i < 64 → get_or own i 0 ≡ f (me % 32) i (get_or cells (me % 32 * 64 + i) 0)) → all ≡ swept f cells
+  unfolding swept map_cells
+  own_swept others becomes =
+      ext_get_or 0 all _ (whole ∙ sym (length_map_from 0 (cellwise f) cells ∙ long)) (λ n b. each n (omega (arith, whole)) ∙ sym (get_or_map_from (cellwise f) cells n 0 (omega (arith, whole))))
+    where
+      whole : length all ≡ 2048
+      whole = omega (arith, length-append (take (me % 32 * 64) cells) (own ++ drop (me % 32 * 64 + 64 - me % 32 * 64) (drop (me % 32 * 64) cells)), length-append own (drop (me % 32 * 64 + 64 - me % 32 * 64) (drop (me % 32 * 64) cells)), length-drop (me % 32 * 64 + 64 - me % 32 * 64) (drop (me % 32 * 64) cells), length-drop (me % 32 * 64) cells, front)
+
+      each : (n : ℕ) → n < 2048 → get_or all n 0 ≡ cellwise f n (get_or cells n 0)
+      each n b =
+          elim (same (n / 64) (me % 32)) [
+            | inl e ↦
+                let at : me % 32 * 64 + n % 64 ≡ n = omega arith in
+                mine n e ∙ rw at at (becomes (n % 64) (omega arith)) ∙ sym (within f n _ (omega arith) ∙ rw e)
+            | inr d ↦ other n d ∙ sym (kept f n _ (others (n / 64) (n % 64) _ d))
+          ]
+
+-- "All its write locks become certify locks", of which the first N have
+pub converted_own : (cells own : List ℕ) (me N : ℕ) → length cells ≡ 2048
+    → Sofar 0 (λ n. n) (λ n c. cond (has Write c) (marked Certify (unmarked Write c)) c) N (lent cells me) own → length (lent cells me) ≤ N
+    → put_mid (me % 32 * 64) (me % 32 * 64 + 64 - me % 32 * 64) cells own ≡ swept (converted_cell (me % 32)) cells
+unfolding converted_cell
+converted_own cells own me N long s h =
+    let size = own_long cells me long in
+    own_swept _ cells own me long (s.long ∙ size) (λ p j c d. rw (ne_eqb p (me % 32) d))
+    (λ i b. s.done i (omega arith) (omega arith) ∙ rw (own_at cells me long i b, eq-eqb (me % 32) (me % 32) refl))
+
+-- "its cells are cleared"
+pub cleared_own : (cells own : List ℕ) (me : ℕ) → length cells ≡ 2048 → own ≡ replicate (length (lent cells me)) 0
+    → put_mid (me % 32 * 64) (me % 32 * 64 + 64 - me % 32 * 64) cells own ≡ swept (cleared_cell (me % 32)) cells
+unfolding cleared_cell
+cleared_own cells own me long e =
+    let size = own_long cells me long in
+    own_swept _ cells own me long (rw e (length-replicate _ 0 ∙ size)) (λ p j c d. rw (ne_eqb p (me % 32) d))
+    (λ i b. rw (e, eq-eqb (me % 32) (me % 32) refl) (get_or-replicate (length (lent cells me)) i 0 0 (omega arith)))
 
 -- Ending: round i handles item i
 
@@ -191,22 +238,29 @@ pub uncommitted : (cells pending : List ℕ) (me i : ℕ) (x : Item) → has Cer
 unfolding committed_item holds cell_at
 uncommitted cells pending me i x e = rw e
 
-module _ (cells pending : List ℕ) (me i : ℕ) {old items : List Item} (s : Sofar blank (λ n. n) (committed_item cells pending me) i old items) (new : List Item) (test : Bool) (t : test ≡ has Certify (get_or cells (me * 64 + i) 0)) where
-  pub committed_one : (x : Item) → test ≡ true → new ≡ set items i x
-      → x ≡ record { level = (get_or items i blank).level; value = get_or pending i 0; version = grown (get_or items i blank).version }
-      → Sofar blank (λ n. n) (committed_item cells pending me) (i + 1) old new
-  unfolding committed_item holds cell_at
-  committed_one x y p e = rw p (sofar_set _ _ _ i i x s refl (e ∙ rw (sym t ∙ y)) (λ n h k ne. absurd (ne k)))
+module _ (cells own : List ℕ) (me i : ℕ) (long : length cells ≡ 2048) (is_own : own ≡ lent cells me) (b : i < length own) where
+  own_cell : get_or own i 0 ≡ get_or cells (me % 32 * 64 + i) 0
+  own_cell = let size = own_long cells me long in rw is_own (own_at cells me long i (omega (arith, ap length is_own)))
 
-  pub passed_one : test ≡ false → new ≡ items → Sofar blank (λ n. n) (committed_item cells pending me) (i + 1) old new
-  passed_one y p = rw p (sofar_skip _ _ _ i s (λ n h k. rw k (uncommitted cells pending me i _ (sym t ∙ y))))
+  module _ (pending : List ℕ) {old items : List Item} (s : Sofar blank (λ n. n) (committed_item cells pending (me % 32)) i old items) (new : List Item) (test : Bool) (t : test ≡ has Certify (get_or own i 0)) where
+    pub committed_one : (x : Item) → test ≡ true → new ≡ set items i x
+        → x ≡ record { level = (get_or items i blank).level; value = get_or pending i 0; version = grown (get_or items i blank).version }
+        → Sofar blank (λ n. n) (committed_item cells pending (me % 32)) (i + 1) old new
+    unfolding committed_item holds cell_at
+    committed_one x y p e = rw p (sofar_set _ _ _ i i x s refl (e ∙ rw (← own_cell, ← t, y)) (λ n h k ne. absurd (ne k)))
 
-pub dropped_one : (cells : List ℕ) (me i v : ℕ) {old values : List ℕ} → Sofar 0 (λ n. n) (dropped_pending cells me) i old values
-    → v ≡ cond (has Write (get_or cells (me * 64 + i) 0) || has Certify (get_or cells (me * 64 + i) 0)) 0 (get_or values i 0)
-    → Sofar 0 (λ n. n) (dropped_pending cells me) (i + 1) old (set values i v)
-unfolding dropped_pending wrote holds cell_at
-dropped_one cells me i v s e = sofar_set _ _ _ i i v s refl e (λ n h k ne. absurd (ne k))
+    pub passed_one : test ≡ false → new ≡ items → Sofar blank (λ n. n) (committed_item cells pending (me % 32)) (i + 1) old new
+    passed_one y p = rw p (sofar_skip _ _ _ i s (λ n h k. rw k (uncommitted cells pending (me % 32) i _ (rw own_cell at (sym t ∙ y)))))
+
+  pub dropped_one : (v : ℕ) {old values : List ℕ} → Sofar 0 (λ n. n) (dropped_pending cells (me % 32)) i old values
+      → v ≡ cond (has Write (get_or own i 0) || has Certify (get_or own i 0)) 0 (get_or values i 0)
+      → Sofar 0 (λ n. n) (dropped_pending cells (me % 32)) (i + 1) old (set values i v)
+  unfolding dropped_pending wrote holds cell_at
+  dropped_one v s e = sofar_set _ _ _ i i v s refl (e ∙ rw own_cell) (λ n h k ne. absurd (ne k))
 
 -- 64 rounds are all
+pub rounds : (cells own : List ℕ) (me N : ℕ) → length cells ≡ 2048 → own ≡ lent cells me → length own ≤ N → 64 ≤ N
+rounds cells own me N long e h = let size = own_long cells me long in omega (arith, ap length e)
+
 pub all_items : {A : Type 0} (d : A) (f : ℕ → A → A) (N : ℕ) (old new : List A) → Sofar d (λ n. n) f N old new → length old ≡ 64 → 64 ≤ N → new ≡ map_from 0 f old
 all_items d f N old new s long h = sofar_all d (λ n. n) f N s (λ n b. omega arith)

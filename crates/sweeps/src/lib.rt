@@ -1,6 +1,7 @@
 // What a change does to the cells, where they lie, and to the two versions of the items: one mark, and five sweeps, for the
 // transaction at place `me`.
-// Any number names a place and an item: it is taken modulo 32 and 64, as the desk takes the level and the item of a request.
+// Any number names a place and an item: it is taken modulo 32 and 64, as the desk takes the level and the item of a request. Cells and
+// place go apart through here, as the public functions are given them.
 
 #![tactic(auto)]
 
@@ -13,14 +14,13 @@ ghost use Rattle.house.specs.Rules.{wrote, signalled_cell, converted_cell, clear
 ghost use Rattle.sweeps.specs.Sweep.{swept, on_item, signalled_from};
 
 use house::{Item, Mark};
-use parts::{dominates, grow, has_mark, with_mark, without_mark};
+use parts::{dominates, grow, has_mark, is_written, own_cells, with_mark, without_mark};
 
 pub fn mark_cell(cells: &mut [u8; 2048], m: Mark, me: usize, i: usize)
     ensures { cells.new ≡ with_mark m cells.old (me % 32) (i % 64) }
 {
     let n = me % 32 * 64 + i % 64;
-    let c = cells[n];
-    cells[n] = with_mark(m, c);
+    cells[n] = with_mark(m, cells[n]);
 }
 
 fn signal(c: u8) -> u8
@@ -33,37 +33,30 @@ fn signal(c: u8) -> u8
     }
 }
 
-// The places of a level are eight in a row.
+// The places of a level are eight in a row, and their cells of an item 64 apart: of what a walk in such steps leaves nothing is proved, so
+// they are indexed.
 fn signal_level(cells: &mut [u8; 2048], l: usize, i: usize)
     requires { (l < 4) × (i < 64) }
     ensures { cells.new ≡ swept (on_item i (signalled_from (eqb l))) cells.old }
 {
     for k in 0..8 {
         let n = (l * 8 + k) * 64 + i;
-        let c = cells[n];
-        cells[n] = signal(c);
+        cells[n] = signal(cells[n]);
     }
 }
 
-fn is_above(order: [u8; 16], l: usize, me: usize) -> bool
-    requires { (l < 4) × (me < 32) }
-    ensures { result ≡ above order l (level_of me) }
+fn is_above(order: [u8; 16], a: u8, me: usize) -> bool
+    ensures { result ≡ above order a (level_of (me % 32)) }
 {
-    let a = l as u8;
-    let b = (me / 8) as u8;
+    let b = (me % 32 / 8) as u8;
     dominates(order, a, b) & (a != b)
 }
 
 // The levels above that of the place.
 fn levels_above(order: [u8; 16], me: usize) -> [bool; 4]
-    requires { me < 32 }
-    ensures { result ≡ map (λ l. above order l (level_of me)) (0 ∷ 1 ∷ 2 ∷ 3 ∷ []) }
+    ensures { result ≡ map (λ l. above order l (level_of (me % 32))) (0 ∷ 1 ∷ 2 ∷ 3 ∷ []) }
 {
-    let a0 = is_above(order, 0, me);
-    let a1 = is_above(order, 1, me);
-    let a2 = is_above(order, 2, me);
-    let a3 = is_above(order, 3, me);
-    [a0, a1, a2, a3]
+    [0, 1, 2, 3].map(|a| is_above(order, a, me))
 }
 
 // The cells of the levels above are all that is looked at.
@@ -71,33 +64,25 @@ fn signal_item(cells: &mut [u8; 2048], over: [bool; 4], i: usize)
     requires { i < 64 }
     ensures { cells.new ≡ swept (on_item i (signalled_from (λ l. get_or over l false))) cells.old }
 {
-    for l in 0..4 {
-        if over[l] {
+    for (l, above) in over.iter().enumerate() {
+        if *above {
             signal_level(cells, l, i);
         }
     }
 }
 
-// The item of that cell is written, by the transaction whose cell it is.
-fn is_written(c: u8) -> bool
-    ensures { result ≡ (has Write c || has Certify c) }
-{
-    has_mark(Mark::Write, c) | has_mark(Mark::Certify, c)
-}
-
-// The transaction has written some item. Without a way out of its loop the scan is compiled to a few wide instructions.
+// The transaction has written some item. Without a way out the scan is compiled to a few wide instructions, so it is no `any`. What it would
+// share with `holds_any` is no shorter than the fold.
 pub fn has_claimed(cells: &[u8; 2048], me: usize) -> bool
     ensures { result ≡ any (wrote cells.now (me % 32)) 0 64 }
 {
-    let here = me % 32;
-    let mut hit = false;
-    for i in 0..64 {
-        hit = hit | is_written(cells[here * 64 + i]);
-    }
-    hit
+    own_cells(cells, me)
+        .iter()
+        .fold(false, |hit, c| hit | is_written(*c))
 }
 
-// Who gives none, or has written nothing, signals nobody. The order is looked up once for all items.
+// Who gives none, or has written nothing, signals nobody; `gives` is a yes or no, as its clause has it. The order is looked up once for all items, and the own cells are copied, since
+// the others change meanwhile.
 pub fn signal_readers<'a>(cells: &'a mut [u8; 2048], order: &'a [u8; 16], gives: bool, me: usize)
     ensures { cells.new ≡ swept (signalled_cell gives order.now cells.old (me % 32)) cells.old }
 {
@@ -107,11 +92,11 @@ pub fn signal_readers<'a>(cells: &'a mut [u8; 2048], order: &'a [u8; 16], gives:
     if !has_claimed(cells, me) {
         return;
     }
-    let here = me % 32;
-    let over = levels_above(*order, here);
-    for i in 0..64 {
-        let c = cells[here * 64 + i];
-        if is_written(c) {
+    let mut own = [0; 64];
+    own.copy_from_slice(own_cells(cells, me));
+    let over = levels_above(*order, me);
+    for (i, c) in own.iter().enumerate() {
+        if is_written(*c) {
             signal_item(cells, over, i);
         }
     }
@@ -127,37 +112,34 @@ fn convert(c: u8) -> u8
     }
 }
 
+// The own cells are lent here and below: a function that lends them on would have to say what they end as.
 pub fn convert_cells(cells: &mut [u8; 2048], me: usize)
     ensures { cells.new ≡ swept (converted_cell (me % 32)) cells.old }
 {
-    let here = me % 32;
-    for i in 0..64 {
-        let n = here * 64 + i;
-        let c = cells[n];
-        cells[n] = convert(c);
+    let from = me % 32 * 64;
+    for c in &mut cells[from..from + 64] {
+        *c = convert(*c);
     }
 }
 
 pub fn clear_cells(cells: &mut [u8; 2048], me: usize)
     ensures { cells.new ≡ swept (cleared_cell (me % 32)) cells.old }
 {
-    let here = me % 32;
-    for i in 0..64 {
-        cells[here * 64 + i] = 0;
-    }
+    let from = me % 32 * 64;
+    cells[from..from + 64].fill(0);
 }
 
 fn commit_item(x: Item, pending: u32) -> Item
     ensures { result ≡ record { level = x.level; value = pending; version = grown x.version } }
 {
     Item {
-        level: x.level,
         value: pending,
         version: grow(x.version),
+        ..x
     }
 }
 
-// Most rows stay: only a certified one is stored.
+// Most rows stay: only a certified one is stored. Of what a `zip` of two walks leaves nothing is proved, so the rows are indexed.
 pub fn commit_items<'a>(
     items: [Item; 64],
     pending: &'a [u32; 64],
@@ -166,12 +148,10 @@ pub fn commit_items<'a>(
 ) -> [Item; 64]
     ensures { result ≡ map_from 0 (committed_item cells.now pending.now (me % 32)) items }
 {
-    let here = me % 32;
     let mut out = items;
-    for i in 0..64 {
-        if has_mark(Mark::Certify, cells[here * 64 + i]) {
-            let x = out[i];
-            out[i] = commit_item(x, pending[i]);
+    for (i, c) in own_cells(cells, me).iter().enumerate() {
+        if has_mark(Mark::Certify, *c) {
+            out[i] = commit_item(out[i], pending[i]);
         }
     }
     out
@@ -183,14 +163,13 @@ fn drop_value(c: u8, v: u32) -> u32
     if is_written(c) { 0 } else { v }
 }
 
+// Indexed as `commit_items` is.
 pub fn drop_pending(pending: [u32; 64], cells: &[u8; 2048], me: usize) -> [u32; 64]
     ensures { result ≡ map_from 0 (dropped_pending cells.now (me % 32)) pending }
 {
-    let here = me % 32;
     let mut out = pending;
-    for i in 0..64 {
-        let v = out[i];
-        out[i] = drop_value(cells[here * 64 + i], v);
+    for (i, c) in own_cells(cells, me).iter().enumerate() {
+        out[i] = drop_value(*c, out[i]);
     }
     out
 }

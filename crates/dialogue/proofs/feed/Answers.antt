@@ -5,13 +5,13 @@ use Rattle.dialogue.specs.Dialogue.{fed}
 use Rattle.dialogue.proofs.Stages.{staged}
 use Rattle.dialogue.proofs.feed.Goals as goal
 
-pub returns-then-is_decided : goal.returns-then-is_decided
+pub returns-in-Waiting : goal.returns-in-Waiting
 unfolding fed
-returns-then-is_decided c = search (followed, staged)
+returns-in-Waiting c = search (followed, staged)
 
-pub returns-else-is_decided : goal.returns-else-is_decided
+pub returns-in-Waiting-2 : goal.returns-in-Waiting-2
 unfolding fed
-returns-else-is_decided c = search (followed, staged)
+returns-in-Waiting-2 c = search (followed, staged)
 
 pub returns-in-Open : goal.returns-in-Open
 unfolding fed

@@ -1,5 +1,6 @@
+use borrow.Author.Rules.{rules}
 use Rattle.dialogue.proofs.Keeping.{heard_is}
 use Rattle.dialogue.proofs.hear.Goals as goal
 
 pub returns : goal.returns
-returns c = search heard_is
+returns c = search (rules, heard_is)

@@ -5,8 +5,8 @@ use Rattle.dialogue.proofs.open_and_serve.Goals as goal
 pub serve-requires : goal.serve-requires
 serve-requires c = search (rules, opened_past)
 
-pub returns-then-number-eq0 : goal.returns-then-number-eq0
-returns-then-number-eq0 c = search opens_open
+pub returns-in-None : goal.returns-in-None
+returns-in-None c = search opens_open
 
-pub returns : goal.returns
-returns c = search opens_refused
+pub returns-in-Some : goal.returns-in-Some
+returns-in-Some c = search opens_refused

@@ -1,8 +1,6 @@
-use Rattle.dialogue.proofs.Laws.{front_short, front_whole}
+use borrow.Author.Rules.{rules}
+use Rattle.dialogue.proofs.Laws.{front_short}
 use Rattle.dialogue.proofs.open_front.Goals as goal
 
-pub returns-then-bytes-end : goal.returns-then-bytes-end
-returns-then-bytes-end c = search front_short
-
-pub returns : goal.returns
-returns c = search front_whole
+pub returns-in_default : goal.returns-in_default
+returns-in_default c = search (rules, front_short)

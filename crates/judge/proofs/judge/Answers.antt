@@ -3,31 +3,31 @@
 use borrow.Author.Rules.{rules}
 use Rattle.house.proofs.Branches.{followed}
 use Rattle.ruling.proofs.Judged.{shown_ruled, judged}
-use Rattle.judge.proofs.Laws.{low, sought, placed, place_fits, eighth_fits}
+use Rattle.judge.proofs.Laws.{named, nameless, begins, low, sought, placed, place_fits, eighth_fits}
 use Rattle.judge.proofs.judge.Goals as goal
 
-pub returns-then-no_operation : goal.returns-then-no_operation
+pub returns-in-Err : goal.returns-in-Err
 unfolding shown_ruled
-returns-then-no_operation c = search (followed, judged) depth 20
+returns-in-Err c = search (nameless, judged, c.in-Err.ensures) depth 20
 
 pub returns-then-no_level : goal.returns-then-no_level
 unfolding shown_ruled
-returns-then-no_level c = search (followed, judged) depth 20
+returns-then-no_level c = search (followed, named, judged, c.in-Ok.ensures) depth 20
 
 pub returns-then-unused_set : goal.returns-then-unused_set
 unfolding shown_ruled
-returns-then-unused_set c = search (followed, judged) depth 20
+returns-then-unused_set c = search (followed, named, judged, c.in-Ok.ensures) depth 20
 
 pub judge_begin-requires : goal.judge_begin-requires
 judge_begin-requires c = search (rules, low)
 
-pub returns-then-q-eq0 : goal.returns-then-q-eq0
+pub returns-then-eq : goal.returns-then-eq
 unfolding shown_ruled
-returns-then-q-eq0 c = search (followed, judged) depth 20
+returns-then-eq c = search (followed, named, begins, judged, c.in-Ok.ensures) depth 20
 
 pub returns-in_default : goal.returns-in_default
 unfolding shown_ruled
-returns-in_default c = search (followed, judged) depth 20
+returns-in_default c = search (followed, named, begins, judged, c.in-Ok.ensures) depth 20
 
 pub offset_bounds-eight-k : goal.offset_bounds-eight-k
 offset_bounds-eight-k c = search (sought, eighth_fits)
@@ -38,9 +38,12 @@ bounds-eight-k c = search (rules, sought)
 pub overflow_add-me : goal.overflow_add-me
 overflow_add-me c = search (low, sought, place_fits)
 
-pub judge_known-requires : goal.judge_known-requires
-judge_known-requires c = search (rules, low, sought, placed)
+pub invariant_of-judge_known-clause-named : goal.invariant_of-judge_known-clause-named
+invariant_of-judge_known-clause-named c = c.in-Ok.ensures
+
+pub invariant_of-judge_known-clause-there : goal.invariant_of-judge_known-clause-there
+invariant_of-judge_known-clause-there c = search (low, sought, placed)
 
 pub returns : goal.returns
 unfolding shown_ruled
-returns c = search (followed, judged) depth 20
+returns c = search (followed, named, begins, judged, c.in-Ok.ensures) depth 20

@@ -1,5 +1,5 @@
 use Rattle.house.proofs.Branches.{followed}
-use Rattle.judge.proofs.Laws.{certify_held}
+use Rattle.judge.proofs.Laws.{certified_is, certify_held}
 use Rattle.ruling.specs.Judged.{certify_ruled}
 use Rattle.judge.proofs.judge_certify.Goals as goal
 
@@ -7,14 +7,14 @@ pub returns-then-is_signalled : goal.returns-then-is_signalled
 unfolding certify_ruled
 returns-then-is_signalled c = search followed
 
-pub returns-then-is_certified : goal.returns-then-is_certified
+pub returns-then-eq : goal.returns-then-eq
 unfolding certify_ruled
-returns-then-is_certified c = search followed
+returns-then-eq c = search (followed, certified_is)
 
-pub returns-in-At : goal.returns-in-At
+pub returns-in-Some : goal.returns-in-Some
 unfolding certify_ruled
-returns-in-At c = search (followed, certify_held)
+returns-in-Some c = search (followed, certified_is, certify_held)
 
 pub returns : goal.returns
 unfolding certify_ruled
-returns c = search (followed, certify_held)
+returns c = search (followed, certified_is, certify_held)

@@ -1,30 +1,21 @@
--- Each arm is `search followed`: it goes through the operations of `known_ruled` up to the number that the arm is of. An arm that is inserted
--- brings its own goal and moves no other.
-use Rattle.house.proofs.Branches.{followed}
-use Rattle.judge.proofs.Laws.{granted, asked}
-use Rattle.ruling.specs.Judged.{known_ruled}
+-- Each arm is `search arm`, which goes by the operation that the arm is of. An arm that is inserted brings its own goal and moves no other.
+use Rattle.judge.proofs.Laws.{granted, asked, arm, asks}
 use Rattle.judge.proofs.judge_known.Goals as goal
 
-pub returns-in-1 : goal.returns-in-1
-unfolding known_ruled
-returns-in-1 c = search followed depth 20
+pub returns-in-Read : goal.returns-in-Read
+returns-in-Read c = search arm
 
-pub returns-in-2 : goal.returns-in-2
-unfolding known_ruled
-returns-in-2 c = search followed depth 20
+pub returns-in-Write : goal.returns-in-Write
+returns-in-Write c = search arm
 
-pub returns-in-3 : goal.returns-in-3
-unfolding known_ruled
-returns-in-3 c = search followed depth 20
+pub returns-in-Certify : goal.returns-in-Certify
+returns-in-Certify c = search arm
 
-pub returns-in-4 : goal.returns-in-4
-unfolding known_ruled
-returns-in-4 c = search followed depth 20
+pub returns-in-Commit : goal.returns-in-Commit
+returns-in-Commit c = search arm
 
-pub returns-in-5 : goal.returns-in-5
-unfolding known_ruled
-returns-in-5 c = search followed depth 20
+pub returns-in-Abort : goal.returns-in-Abort
+returns-in-Abort c = search arm
 
-pub returns-in_default : goal.returns-in_default
-unfolding known_ruled
-returns-in_default c = search (followed, granted, asked) depth 20
+pub returns-in-Begin : goal.returns-in-Begin
+returns-in-Begin c = search (asks, granted, asked)

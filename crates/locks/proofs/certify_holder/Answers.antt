@@ -1,6 +1,9 @@
-use borrow.Author.Rules.{rules}
-use Rattle.locks.proofs.Laws.{near, hindered}
+use Rattle.std.proofs.Common.{rules, tests}
+use Rattle.house.proofs.Branches.{found}
+use Rattle.locks.proofs.Laws.{certify_others}
 use Rattle.locks.proofs.certify_holder.Goals as goal
 
-pub lowest_holder-requires : goal.lowest_holder-requires
-lowest_holder-requires c = search (rules, near, hindered)
+pub returns : goal.returns
+returns c =
+    found _ _ _ _ _ _ c.first_awaited.ensures c.in_ok-i.was
+    (certify_others _ _ _ _ _ _ c.first_awaited.ensures c.in_ok-i.was (search (rules, tests, c.lowest_below.ensures)))

@@ -1,18 +1,16 @@
-use native.Mathlib.Nat.{zero-add}
-use native.Mathlib.Omega.{arith}
-use mathlib.Core.Path.{sym}
-use borrow.Author.Rules.{rules}
-use Rattle.house.proofs.Searches.{searched}
-use Rattle.house.specs.Cell.{count_signalled}
+use Rattle.std.proofs.Common.{◌∙◌, sym, ap}
+use Rattle.std.specs.List.{count_by}
+use Rattle.std.proofs.lemmas.List.{take_all}
+use Rattle.std.proofs.lemmas.List.Sums.{length-filter}
+use Rattle.house.specs.Cell.{has, holds, cell_at, count_signalled}
+use Rattle.house.specs.declared.Mark.TheVariants.{Signalled}
+use Rattle.parts.proofs.Scans.{own_count}
 use Rattle.locks.proofs.count_signalled.Goals as goal
-use Rattle.locks.proofs.count_signalled.Goals.{then-holds_mark, else-holds_mark}
-
-pub loop-i-init : goal.loop-i-init
-unfolding count_signalled
-loop-i-init c = (search rules, sym (zero-add _))
-
-pub loop-i-preserved : goal.loop-i-preserved
-loop-i-preserved c = elim c.if-holds_mark.branch [ then-holds_mark w ↦ (omega arith, search searched) | else-holds_mark w ↦ (omega arith, search searched) ]
 
 pub returns : goal.returns
-returns c = search searched
+unfolding count_signalled holds cell_at
+returns c =
+    c.loop-c.invariant
+    ∙ ap (count_by (has Signalled)) (take_all _ _ c.loop-c-test.false ∙ c.own_cells-c-items.ensures)
+    ∙ sym (length-filter (has Signalled) _)
+    ∙ own_count _ c.args.me c.told-cells (has Signalled)

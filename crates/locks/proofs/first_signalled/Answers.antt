@@ -1,17 +1,13 @@
-use mathlib.Core.Path.{refl}
-use Rattle.house.proofs.Searches.{searched}
-use Rattle.house.specs.Cell.{first_signalled}
+use Rattle.std.proofs.Common.{◌∙◌, rules, tests}
+use Rattle.std.proofs.lemmas.Iterator.{YieldsList-from_slice}
+use Rattle.std.proofs.lemmas.Iterator.Search.{position_from_yields_List}
+use Rattle.house.specs.Cell.{has, holds, cell_at, first_signalled}
+use Rattle.house.specs.declared.Mark.TheVariants.{Signalled}
+use Rattle.parts.proofs.Scans.{own_position}
 use Rattle.locks.proofs.first_signalled.Goals as goal
 
-pub loop-i-init : goal.loop-i-init
-unfolding first_signalled
-loop-i-init c = refl
-
-pub returns-then-holds_mark : goal.returns-then-holds_mark
-returns-then-holds_mark c = search searched
-
-pub loop-i-preserved : goal.loop-i-preserved
-loop-i-preserved c = search searched
-
 pub returns : goal.returns
-returns c = search searched
+unfolding first_signalled holds cell_at
+returns c =
+    position_from_yields_List (has Signalled) _ _ _ c.position.ensures.ran (YieldsList-from_slice _ (c.iter.ensures.rest ∙ c.own_cells.ensures)) (λ x b q k. search (rules, tests))
+    ∙ own_position _ c.args.me c.told-cells (has Signalled)

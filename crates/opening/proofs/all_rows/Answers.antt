@@ -1,13 +1,10 @@
-use native.Mathlib.Omega.{arith}
-use mathlib.Core.Path.{refl}
-use Rattle.house.proofs.Lists.{sofar_set, sofar_all}
-use Rattle.house.specs.Opening.{row_at, rows}
+use Rattle.std.proofs.Common.{rules, get_or}
+use Rattle.house.specs.House.{blank}
+use Rattle.house.specs.Opening.{unsaved}
+use Rattle.opening.proofs.Laws.{given, made_rows}
 use Rattle.opening.proofs.all_rows.Goals as goal
 
-pub loop-i-preserved : goal.loop-i-preserved
-unfolding row_at
-loop-i-preserved c = sofar_set _ _ _ _ _ _ c.loop-i.invariant refl c.row.ensures (λ n h k ne. absurd (ne k))
-
 pub returns : goal.returns
-unfolding rows
-returns c = sofar_all _ _ _ _ c.loop-i.invariant (λ n h. omega arith)
+returns c =
+    let items = c.from_fn.ensures.items in
+    made_rows c.args.levels.now _ items.long (given _ _ (λ i. unsaved (get_or c.args.levels.now i 0)) (λ i item q k. search rules) _ blank 64 items)

@@ -1,18 +1,10 @@
-use native.Mathlib.Omega.{arith}
-use mathlib.Core.Path.{refl}
-use Rattle.house.proofs.Searches.{started, searched}
-use Rattle.house.specs.Opening.{wrong_level}
+use Rattle.std.proofs.Common.{rules, tests, ltb, sym, ◌∙◌}
+use Rattle.std.proofs.lemmas.Iterator.{YieldsList-from_slice}
+use Rattle.std.proofs.lemmas.Iterator.Search.{any_from_yields_List}
+use Rattle.house.specs.Opening.{high_at, wrong_level}
+use Rattle.opening.proofs.Laws.{any_listed}
 use Rattle.opening.proofs.has_wrong_level.Goals as goal
 
-pub loop-i-init : goal.loop-i-init
-unfolding wrong_level
-loop-i-init c = (refl, started _ _ _ _ _ _ (omega arith))
-
-pub returns-then-is_high : goal.returns-then-is_high
-returns-then-is_high c = search searched
-
-pub loop-i-preserved : goal.loop-i-preserved
-loop-i-preserved c = search searched
-
 pub returns : goal.returns
-returns c = search searched
+unfolding high_at wrong_level
+returns c = any_from_yields_List (ltb 3) _ _ _ c.any.ensures.ran (YieldsList-from_slice c.args.levels.now cc) (λ x b q k. search (rules, tests)) ∙ sym (any_listed (ltb 3) c.args.levels.now)

@@ -1,18 +1,11 @@
-use Rattle.std.proofs.Common.{◌<◌, arith}
-use mathlib.Core.Path.{refl}
-use Rattle.house.proofs.Searches.{searched}
-use Rattle.house.specs.Order.{disordered}
+use Rattle.std.proofs.Common.{rules, tests, refl, sym, ◌∙◌}
+use Rattle.std.proofs.lemmas.Iterator.{YieldsList-from_range}
+use Rattle.std.proofs.lemmas.Iterator.Search.{any_from_yields_List}
+use Rattle.house.specs.Order.{wrong_at, disordered}
+use Rattle.opening.proofs.Laws.{any_ranged}
 use Rattle.opening.proofs.is_disordered.Goals as goal
 
-pub loop-n-init : goal.loop-n-init
-unfolding disordered
-loop-n-init c = refl
-
-pub returns-then-is_wrong_at : goal.returns-then-is_wrong_at
-returns-then-is_wrong_at c = let among : c.loop-n.n < 64 = omega arith in search searched
-
-pub loop-n-preserved : goal.loop-n-preserved
-loop-n-preserved c = let among : c.loop-n.n < 64 = omega arith in search searched
-
 pub returns : goal.returns
-returns c = search searched
+unfolding disordered
+returns c =
+    any_from_yields_List (wrong_at c.args.order) _ _ _ c.any.ensures.ran (YieldsList-from_range _ _ 64 refl refl) (λ x b q k. search (rules, tests)) ∙ sym (any_ranged (wrong_at c.args.order) 0 64)

@@ -12,6 +12,6 @@ not_yet k n a b = omega arith
 pub loop-k-preserved : goal.loop-k-preserved
 loop-k-preserved c = (omega arith, search (searched, not_yet, met))
 
-pub returns : goal.returns
+pub returns-then-seat-ticket : goal.returns-then-seat-ticket
 unfolding seek
-returns c = search (searched, not_yet, met, comes_to)
+returns-then-seat-ticket c = search (searched, not_yet, met, comes_to)

@@ -1,26 +1,25 @@
-use mathlib.Core.List.{[]}
-use mathlib.Core.Path.{◌≡◌}
+use Rattle.std.proofs.Common.{rules, ℕ, ◌<◌, ◌≡◌, List, [], Some, arith, sym}
+use borrow.Author.Tests.{ne_eqb}
+use Rattle.house.specs.declared.Misfit.{Misfit}
 use Rattle.house.specs.declared.Opening.{Opening}
-use Rattle.house.specs.declared.Rule.TheVariants.{A}
-use Rattle.house.specs.Order.{old_chain}
-use Rattle.house.specs.Opening.{wrong_count, open_verdict, opened, opening}
-use Rattle.house.proofs.Branches.{followed}
+use Rattle.house.specs.declared.Rule.{Rule}
+use Rattle.house.specs.declared.Rule.TheVariants.{A, B}
+use Rattle.house.specs.Opening.{rule_number, wrong_count, opening}
 use Rattle.port.specs.Call.{opening_by}
 use Rattle.port.proofs.open_by.Goals as goal
 
--- no levels are refused, so that their house is that of a refused opening
-refused : (o r : Opening) → o ≡ opening [] [] A → r ≡ record { number = 28; house = o.house } → r ≡ record { number = 28; house = opened [] old_chain A }
-unfolding opening open_verdict wrong_count
-refused o r e p = rw e at p
-
-pub returns-in-0 : goal.returns-in-0
+-- a number that names a rule, and one that names none: no levels are refused, so that their house is that of a refused opening
+named : (levels table : List ℕ) (n : ℕ) (rule : Rule) (o : Opening) → rule_number rule ≡ n → o ≡ opening levels table rule → o ≡ opening_by levels table n
 unfolding opening_by
-returns-in-0 c = search followed
+named levels table n A o e s = rw (sym e) s
+named levels table n B o e s = rw (sym e) s
 
-pub returns-in-1 : goal.returns-in-1
-unfolding opening_by
-returns-in-1 c = search followed
+unnamed : (levels table : List ℕ) (n : ℕ) (m : Misfit) (o : Opening) → m ≡ Misfit.Rule → 1 < n → o ≡ opening [] [] A → record { misfit = Some m; house = o.house } ≡ opening_by levels table n
+unfolding opening_by opening wrong_count
+unnamed levels table n m o e h s = rw (s, e, ne_eqb n 0 (λ z. omega arith), ne_eqb n 1 (λ z. omega arith))
 
-pub returns-in_default : goal.returns-in_default
-unfolding opening_by
-returns-in_default c = search (followed, refused)
+pub returns-in-Ok : goal.returns-in-Ok
+returns-in-Ok c = search (rules, named)
+
+pub returns-in-Err : goal.returns-in-Err
+returns-in-Err c = search (rules, unnamed)

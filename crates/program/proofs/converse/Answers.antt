@@ -7,20 +7,20 @@ loop-init g c =
     record {
       not_full = omega arith;
       room = (omega arith, omega arith);
-      told = rw c.start-s.ensures (begins _ _);
+      told = rw c.start.ensures (begins _ _);
     }
 
-pub returns-in_default : goal.returns-in_default
-returns-in_default g c =
+pub returns-in-End : goal.returns-in-End
+returns-in-End g c =
     let i = c.loop.invariant in
-    ends _ _ _ _ _ _ _ _ i.told i.room _ _ _ _ _ _ _ c.exchange-r.ensures.moved c.in_default.not-Round
+    ends _ _ _ _ _ _ _ _ i.told i.room _ _ _ _ _ _ _ c.in_ok-exchange.ensures.moved c.in-End.is
 
 pub loop-preserved : goal.loop-preserved
 loop-preserved g c =
     let i = c.loop.invariant in
-    let e = c.exchange-r.ensures in
+    let e = c.exchange.ensures in
     record {
       not_full = e.round.0;
       room = e.round.1;
-      told = another _ _ _ _ _ _ _ _ i.told i.room _ _ _ _ _ _ _ e.moved c.in-Round.is;
+      told = another _ _ _ _ _ _ _ _ i.told i.room _ _ _ _ _ _ _ c.in_ok-exchange.ensures.moved c.in_default.is;
     }

@@ -6,8 +6,10 @@ use Rattle.program.proofs.Telling.{Told}
 use Rattle.program.proofs.converse.Given as goal
 
 abbrev pub invariant-loop : goal.invariant-loop
-invariant-loop g l = record {
-  not_full : l.have < length l.buffer;
-  room : Room l.buffer l.replies;
-  told : Told (g.R.Read.remaining l.fn.input) (g.R.Read.remaining l.input) (g.W.Write.contents l.fn.output) (g.W.Write.contents l.output) l.s (take l.have l.buffer);
-}
+invariant-loop g l =
+    let c = l.conversation in
+    record {
+      not_full : c.have < length c.buffer;
+      room : Room c.buffer c.replies;
+      told : Told (g.R.Read.remaining l.fn.input) (g.R.Read.remaining l.input) (g.W.Write.contents l.fn.output) (g.W.Write.contents l.output) c.dialogue (take c.have c.buffer);
+    }

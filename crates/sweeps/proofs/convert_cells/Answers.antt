@@ -1,9 +1,5 @@
-use Rattle.sweeps.proofs.Rounds.{below, converted_one, all_cells}
-use borrow.Author.Rules.{rules}
+use Rattle.sweeps.proofs.Rounds.{converted_own}
 use Rattle.sweeps.proofs.convert_cells.Goals as goal
 
-pub loop-i-preserved : goal.loop-i-preserved
-loop-i-preserved c = search (rules, below, converted_one)
-
 pub returns : goal.returns
-returns c = search (rules, all_cells)
+returns c = converted_own _ _ c.args.me _ c.told-cells c.loop-c.invariant c.loop-c-test.false

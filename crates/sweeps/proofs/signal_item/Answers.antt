@@ -9,10 +9,10 @@ use Rattle.house.specs.Cell.{map_cells}
 use Rattle.sweeps.proofs.Rounds.{beyond, signalled_level}
 use Rattle.sweeps.specs.Sweep.{swept}
 use Rattle.sweeps.proofs.signal_item.Goals as goal
-use Rattle.sweeps.proofs.signal_item.Goals.{then-over-l, else-over-l}
+use Rattle.sweeps.proofs.signal_item.Goals.{then-above, else-above}
 
 pub loop-l-preserved : goal.loop-l-preserved
-loop-l-preserved c = elim c.if-over-l.branch [ then-over-l w ↦ search (signalled_level, went {A = List ℕ} (λ x. x)) | else-over-l w ↦ search (signalled_level, passed {A = List ℕ} (λ x. x)) ]
+loop-l-preserved c = elim c.if-above.branch [ then-above w ↦ search (signalled_level, went {A = List ℕ} (λ x. x)) | else-above w ↦ search (signalled_level, passed {A = List ℕ} (λ x. x)) ]
 
 pub returns : goal.returns
 unfolding swept map_cells

@@ -1,8 +1,0 @@
-use Rattle.house.proofs.Searches.{searched}
-use Rattle.locks.proofs.some_other_claims.Goals as goal
-
-pub loop-p-preserved : goal.loop-p-preserved
-loop-p-preserved c = search searched
-
-pub returns : goal.returns
-returns c = search searched
