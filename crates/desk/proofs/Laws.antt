@@ -131,3 +131,9 @@ length_answered h input room most =
     let n = share most input room in
     length-append (wired (replies h (requests n input))) (drop (n * 16) room)
     ∙ rw (length_wired h n input, length-drop (n * 16) room) (omega (arith, share_fits most input room))
+
+-- the house of a turn keeps what each step keeps
+pub finally_keeps : (P : House → Type 0) → ((h : House) → P h → (q : Request) → P (stepped h q).house) → (h : House) → P h → (qs : List Request) → P (finally h qs)
+unfolding finally
+finally_keeps P k h z [] = z
+finally_keeps P k h z (q ∷ qs) = finally_keeps P k (stepped h q).house (k h z q) qs

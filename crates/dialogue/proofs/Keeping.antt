@@ -19,12 +19,12 @@ unfolding kept
 front_kept used b rest = rw (append_assoc (drop used b) (drop (length (drop used b)) b) rest) (take_at (drop used b) _ (length (drop used b)) refl)
 
 -- those that were not used are moved to the front
-pub kept_is : (b : List ℕ) (used u : ℕ) (out : List ℕ) → u ≡ min used (length b) → length out ≡ length b → out ≡ copy_within b u (length b) 0 → (length out - u ≡ length (drop used b)) × (out ≡ kept used b)
+pub kept_is : (b : List ℕ) (used u n : ℕ) (out : List ℕ) → u ≡ min used (length b) → n ≡ length b - u → out ≡ copy_within b u (length b) 0 → (n ≡ length (drop used b)) × (out ≡ kept used b)
 unfolding kept
-kept_is b used u out e same moved =
+kept_is b used u n out e many moved =
     let past : drop u b ≡ drop used b = rw e (drop_min used b) in
     let left : length b - u ≡ length (drop used b) = sym (length-drop u b) ∙ ap length past in
-    (rw same left, moved ∙ rw (left, past, zero-add (length (drop used b)), take-length (drop used b)))
+    (many ∙ left, moved ∙ rw (left, past, zero-add (length (drop used b)), take-length (drop used b)))
 
 -- a round is what was fed of the filled part, and what of it is kept
 module _ (s : Dialogue) (b : List ℕ) (have got : ℕ) (room : List ℕ) (sum end : ℕ) (summed : sum ≡ min (have + got) (2 ^ 64 - 1)) (filled : end ≡ min sum (length b)) (fits : length b < 2 ^ 64) where

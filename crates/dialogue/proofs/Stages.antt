@@ -29,12 +29,12 @@ at_refused r s n w o x e p = rw e p
 pub ruleset staged = (at_waiting, at_open, at_refused)
 
 -- the stage that a dialogue is at, whatever else it has
-pub data Some (s : Stage) : Type 0 where
-  waiting : s ≡ Waiting → Some s
-  opened : s ≡ Open → Some s
-  refused : (n : ℕ) → s ≡ Refused n → Some s
+pub data At (s : Stage) : Type 0 where
+  waiting : s ≡ Waiting → At s
+  opened : s ≡ Open → At s
+  refused : (n : ℕ) → s ≡ Refused n → At s
 
-pub at_stage_lem : (s : Stage) → Some s
+pub at_stage_lem : (s : Stage) → At s
 at_stage_lem Waiting = waiting refl
 at_stage_lem Open = opened refl
 at_stage_lem (Refused n) = refused n refl

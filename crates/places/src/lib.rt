@@ -34,7 +34,5 @@ pub fn lookup(eight: [Place; 8], ticket: u32) -> Option<usize>
 pub fn lowest_free(eight: [Place; 8]) -> Option<usize>
     ensures { result ≡ vacancy eight 0 }
 {
-    eight
-        .iter()
-        .position(|seat| seat.standing == Standing::Free)
+    (0..8).find(|k| eight[*k].standing == Standing::Free)
 }

@@ -1,6 +1,6 @@
 -- What moves in a round of the program, where the bytes are known that its reader has left and that its writer holds.
 -- Assumes nothing.
-use Rattle.std.specs.Prelude.{ℕ, ◌≡◌, ◌⊎◌, List, Option, take}
+use Rattle.std.specs.Prelude.{ℕ, ◌≡◌, ◌⊎◌, ⊤, List, Option, take, Result, Ok, MatchResult, IsOk, IsErr, IfOk}
 use Rattle.std.specs.Io.KnownBytes.{Keeps, Consumes, Appends, IsAtEnd}
 use Rattle.dialogue.specs.declared.Dialogue.{Dialogue}
 use Rattle.dialogue.specs.declared.Stage.{Stage}
@@ -16,6 +16,15 @@ at_next End another over = over
 
 abbrev pub IsRefused : Stage → Type 0
 IsRefused s = (n : ℕ) × (s ≡ Refused n)
+
+-- after a read that brought nothing: only where the input ended, it is over, and there it is
+abbrev pub AfterNoBytes : {E F : Type 0} → Result ℕ E → Result Next F → Type 0
+AfterNoBytes got next = MatchResult got (λ _. next ≡ Ok End) (λ _. IfOk next (λ n. at_next n ⊤ ⊥))
+
+-- after replies: another round and the end come only where they were written, and the end only of what is refused; failure only where they
+-- were not
+abbrev pub AfterReplies : {E F : Type 0} → Result (Unit {0}) E → Stage → Result Next F → Type 0
+AfterReplies put stage next = MatchResult next (λ n. at_next n (IsOk put) (IsOk put × IsRefused stage)) (λ _. IsErr put)
 
 -- The reader had the bytes `given`, and has `left`; the writer held `held`, and holds `holds`. The round led from the dialogue s to t,
 -- from `have` to `kept` bytes that are kept, from one buffer to another, and from `room` to `out`.

@@ -7,7 +7,7 @@
 ghost use Rattle.std.specs.Prelude.{◌<◌, length, OnOk, IfOk};
 ghost use Rattle.std.specs.Io.KnownBytes.{Appends};
 ghost use Rattle.dialogue.specs.Rounds.{Room, Exchanged};
-ghost use Rattle.program.specs.Moves.{Moved};
+ghost use Rattle.program.specs.Moves.{AfterNoBytes, AfterReplies, Moved};
 ghost use Rattle.program.specs.Whole.{AllButFarewell, AllWritten};
 
 use dialogue::{Dialogue, Stage};
@@ -55,6 +55,28 @@ fn write_out<W: Write>(output: &mut W, bytes: &[u8]) -> Result<(), Failure>
     output.flush().map_err(Failure::Write)
 }
 
+// After a read that brought nothing: the input ended, a signal came first, or it failed.
+fn after_no_bytes(got: io::Result<usize>) -> Result<Next, Failure>
+    ensures { AfterNoBytes got result }
+{
+    match got {
+        Ok(_) => Ok(Next::End),
+        Err(why) if why.kind() == ErrorKind::Interrupted => Ok(Next::Round),
+        Err(why) => Err(Failure::Read(why)),
+    }
+}
+
+// Replies that were not written are a failure, and a refused opening is the end.
+fn after_replies(put: Result<(), Failure>, stage: Stage) -> Result<Next, Failure>
+    ensures { AfterReplies put stage result }
+{
+    put?;
+    match stage {
+        Stage::Refused(_) => Ok(Next::End),
+        _ => Ok(Next::Round),
+    }
+}
+
 impl Conversation {
     // One read, and the replies to what it brought, which is heard behind the bytes that were kept. There is room for the replies, and
     // the buffer is never full. Where a read or a write failed, `round` still holds, and nothing is said of what was written.
@@ -72,10 +94,8 @@ impl Conversation {
             self.new.dialogue self.new.have self.new.buffer self.new.replies) }
     {
         let got = match input.read(&mut self.buffer[self.have..]) {
-            Ok(0) => return Ok(Next::End),
-            Ok(got) => got,
-            Err(why) if why.kind() == ErrorKind::Interrupted => return Ok(Next::Round),
-            Err(why) => return Err(Failure::Read(why)),
+            Ok(got) if got != 0 => got,
+            nothing => return after_no_bytes(nothing),
         };
         let heard = dialogue::hear(
             self.dialogue,
@@ -86,11 +106,8 @@ impl Conversation {
         );
         self.dialogue = heard.dialogue;
         self.have = heard.have;
-        write_out(output, &self.replies[..heard.written])?;
-        match heard.dialogue.stage {
-            Stage::Refused(_) => Ok(Next::End),
-            _ => Ok(Next::Round),
-        }
+        let put = write_out(output, &self.replies[..heard.written]);
+        after_replies(put, heard.dialogue.stage)
     }
 }
 

@@ -263,7 +263,7 @@ module _ (v : View) (cells : List ℕ) (q : Request) where
 abbrev pub eight_of : List Place → ℕ → List Place
 eight_of all b = place_at all b ∷ place_at all (b + 1) ∷ place_at all (b + 2) ∷ place_at all (b + 3) ∷ place_at all (b + 4) ∷ place_at all (b + 5) ∷ place_at all (b + 6) ∷ place_at all (b + 7) ∷ []
 
-eight_at : (all : List Place) (b k : ℕ) → k < 8 → place_at all (b + k) ≡ place_at (eight_of all b) k
+pub eight_at : (all : List Place) (b k : ℕ) → k < 8 → place_at all (b + k) ≡ place_at (eight_of all b) k
 eight_at all b zero h = rw (add-zero b)
 eight_at all b (suc zero) h = refl
 eight_at all b (suc (suc zero)) h = refl

@@ -1,23 +1,27 @@
--- The position that the code looks for is what the rules' search over the places finds (`first_found`).
-use Rattle.std.proofs.Common.{◌+◌, ◌≡◌, ◌∙◌, List, length, rules, tests}
-use native.Mathlib.Nat.{zero-add}
-use denote.Enum.Bare.{sameb}
-use Rattle.std.specs.List.{position}
-use Rattle.std.proofs.lemmas.Iterator.{YieldsList-from_slice}
-use Rattle.std.proofs.lemmas.Iterator.Search.{position_from_yields_List}
-use Rattle.house.specs.House.{vacancy, free_at, vacant}
-use Rattle.house.specs.declared.Place.{Place}
-use Rattle.house.specs.declared.Standing.TheVariants.{Free}
-use Rattle.house.specs.contracts.Standing as Standing
+-- The number that the code looks for is what the rules' search over the places finds.
+use Rattle.std.proofs.Common.{ℕ, zero, suc, ◌+◌, ◌≡◌, ◌∙◌, refl, sym, Bool, Option, Some, None, List, option_map, rules, tests, inl, inr}
+use native.Mathlib.Numerals.{add-one}
+use Rattle.std.specs.List.{range_with_len, find as list_find}
+use Rattle.std.proofs.lemmas.Bool.{cases_Bool}
+use Rattle.std.proofs.lemmas.Iterator.{YieldsList-from_range}
+use Rattle.std.proofs.lemmas.Iterator.Search.{find_from_yields_List}
+use Rattle.house.specs.Search.{scan, find}
+use Rattle.house.specs.House.{vacancy, free_at}
 use Rattle.house.proofs.Places.{same_free}
-use Rattle.house.proofs.Scans.{first_found}
 use Rattle.places.proofs.lowest_free.Goals as goal
 
-first_free : (eight : List Place) → length eight ≡ 8 → position (λ seat. sameb Standing.the_type seat.standing Free) eight ≡ vacancy eight 0
-unfolding vacancy free_at
-first_free eight n = first_found _ vacant eight (free_at eight) (λ j b. let at : 0 + j ≡ j = zero-add j in rw (at, same_free)) ∙ rw n
+found_ranged : (f : ℕ → Bool) (k n : ℕ) → list_find f (range_with_len k n) ≡ find f k n
+unfolding scan
+found_ranged f k zero = refl
+found_ranged f k (suc n) = elim (cases_Bool (f k)) [ inl y ↦ rw y | inr y ↦ rw (y, add-one) (found_ranged f (suc k) n) ]
+
+plain : (r : Option ℕ) → option_map (λ x. x) r ≡ r
+plain (Some k) = refl
+plain None = refl
 
 pub returns : goal.returns
+unfolding vacancy free_at
 returns c =
-    let first : c.position.result ≡ position (λ seat. sameb Standing.the_type seat.standing Free) c.args.eight = position_from_yields_List _ _ _ _ c.position.ensures.ran (YieldsList-from_slice _ c.iter.ensures.rest) (λ x b q k. search (rules, tests)) in
-    first ∙ first_free _ (search rules)
+    sym (plain c.find.result)
+    ∙ find_from_yields_List (free_at c.args.eight) _ _ _ c.find.ensures.ran (YieldsList-from_range _ _ 8 refl refl) (λ x b q k. search (rules, tests, same_free))
+    ∙ found_ranged (free_at c.args.eight) 0 8

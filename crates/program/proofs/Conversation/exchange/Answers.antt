@@ -1,13 +1,13 @@
 -- The read leaves the bytes that were kept, and others behind them, in a buffer as long as before; `hear` makes a round of it.
 -- What holds then (`round_over`, `bytes_heard`) is said of any bytes where `hear` is proved.
-use Rattle.std.proofs.Common.{rules, ◌<◌, ◌≤◌, ◌≡◌, ◌++◌, inl, inr, ℕ, List, Option, length, take}
+use Rattle.std.proofs.Common.{rules, ◌<◌, ◌≤◌, ◌≡◌, ◌++◌, ℕ, List, Option, length, take}
 use Rattle.std.specs.Io.KnownBytes.{Appends}
 use Rattle.dialogue.specs.Dialogue.{heard}
 use Rattle.dialogue.specs.Rounds.{Room, Exchanged}
 use Rattle.dialogue.proofs.Rounds.{round_over, bytes_heard}
 use Rattle.program.proofs.Filled.{heard_behind, as_long}
 use Rattle.program.specs.Moves.{Answered}
-use Rattle.program.proofs.Moving.{answered}
+use Rattle.program.proofs.Moving.{answered, comes}
 use Rattle.program.proofs.Conversation.exchange.Goals as goal
 use Rattle.program.proofs.Conversation.exchange.Goals.{After-hear-heard}
 
@@ -33,11 +33,8 @@ made g c =
     let o = over g c in
     (o.0, o.1, bytes_heard _ _ _ _ _ _ _ _ _ (told g c) c.requires.0 (long g c) (c.in-Ok.ensures.bound.0))
 
-pub returns-in_err-write_out-clause-round : goal.returns-in_err-write_out-clause-round
-returns-in_err-write_out-clause-round g c = made g (goal.at.returns-in_err-write_out-clause-round g c).After-hear-heard
-
-pub returns-in-Refused-clause-round : goal.returns-in-Refused-clause-round
-returns-in-Refused-clause-round g c = made g (goal.at.returns-in-Refused-clause-round g c).After-hear-heard
+pub returns-clause-round : goal.returns-clause-round
+returns-clause-round g c = made g (goal.at.returns-clause-round g c).After-hear-heard
 
 -- and with the replies written, all moved that should
 moved : (g : _) (c : After-hear-heard g) (holds : Option (List ℕ)) → Appends (g.W.Write.contents c.args.output.now) holds (take c.hear-heard.result.written c.hear-heard.new.replies)
@@ -45,12 +42,7 @@ moved : (g : _) (c : After-hear-heard g) (holds : Option (List ℕ)) → Appends
 moved g c holds w =
     answered _ _ _ _ c.args.self.now.dialogue c.args.self.now.buffer c.args.self.now.have c.args.self.now.replies c.read.new.buf _ c.hear-heard.result _ _ (told g c) c.requires.0 (long g c) (c.in-Ok.ensures.bound.0) (c.in-Ok.ensures.bytes.0) w
 
-pub returns-in-Refused-clause-moved : goal.returns-in-Refused-clause-moved
-returns-in-Refused-clause-moved g c =
-    let h = (goal.at.returns-in-Refused-clause-moved g c).After-hear-heard in
-    inr (moved g h _ (search rules), (c.in-Refused.field-0, c.in-Refused.is))
-
-pub returns-in_default : goal.returns-in_default
-returns-in_default g c =
-    let h = (goal.at.returns-in_default g c).After-hear-heard in
-    record { round = made g h; moved = inl (moved g h _ (search rules)) }
+pub returns-clause-moved : goal.returns-clause-moved
+returns-clause-moved g c =
+    let h = (goal.at.returns-clause-moved g c).After-hear-heard in
+    comes _ _ c.write_out-put.result c.hear-heard.result.dialogue.stage _ c.after_replies.ensures c.write_out-put.ensures (moved g h _)
