@@ -122,10 +122,10 @@ module _ {level ticket : ℕ} {items : List ℕ} {h₀ : House} {room out : List
       pub part_read : {after : List ℕ} → after ≡ put_mid (n * 16) (length out - n * 16) out given → length after ≡ length room → ReadTo level ticket items h₀ room after t.house (n + length part)
       part_read e l = record { listed = within; placed = omega (arith, within); same = l; housed = houses; written = e ∙ writes }
 
--- THE END: as many as there are places for are all that is read of the items
+-- THE END: as many as there are places for are all that is read of the items, and what the map tells
 
-module _ (level ticket : ℕ) (items : List ℕ) {h₀ : House} {room out : List ℕ} {h : House} {n count : ℕ} (c : count ≡ min (length items) (length room / 16)) (s : ReadTo level ticket (take count items) h₀ room out h n) where
-  pub all_read : length (drop n (take count items)) ≡ 0 → (record { house = h; count = count } ≡ mapped h₀ level ticket items room) × (out ≡ filled h₀ level ticket items room)
+module _ (level ticket : ℕ) (items : List ℕ) {h₀ : House} {room out : List ℕ} {h : House} {n count told : ℕ} (c : count ≡ min (length items) (length room / 16)) (t : told ≡ min (length items) (length room / 16)) (s : ReadTo level ticket (take count items) h₀ room out h n) where
+  pub all_read : length (drop n (take count items)) ≡ 0 → (record { house = h; count = told } ≡ mapped h₀ level ticket items room) × (out ≡ filled h₀ level ticket items room)
   unfolding mapped filled handled
   all_read none =
       let first = take count items in
@@ -133,4 +133,5 @@ module _ (level ticket : ℕ) (items : List ℕ) {h₀ : House} {room out : List
       let over : length first - n ≡ 0 = sym (length-drop n first) ∙ none in
       let whole : take n first ≡ first = take_all n first (omega arith) in
       let e : n ≡ count = omega (arith, s.listed) in
-      (rw (← c) (rw (s.housed, whole) refl), s.written ∙ rw (whole, e, ← c) refl)
+      let u : told ≡ count = t ∙ sym c in
+      (rw (u, ← c) (rw (s.housed, whole) refl), s.written ∙ rw (whole, e, ← c) refl)

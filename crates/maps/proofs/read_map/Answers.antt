@@ -32,4 +32,4 @@ loop-part-preserved c =
     (omega arith, tt, size, behind_is i.4 part _ next places, part_read i.4 part _ next places c.read_part-served.ensures.0 c.read_part-served.ensures.1 refl (search rules))
 
 pub returns : goal.returns
-returns c = let i = c.loop-part.invariant in all_read _ _ c.args.items.now (search rules) i.4 (ap length (sym i.3) ∙ c.in-None.ensures.steps.1.0)
+returns c = let i = c.loop-part.invariant in all_read _ _ c.args.items.now {count = c.min-count.result} (search rules) (search rules) i.4 (ap length (sym i.3) ∙ c.in-None.ensures.steps.1.0)
