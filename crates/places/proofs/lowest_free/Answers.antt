@@ -1,9 +1,10 @@
 -- The number that the code looks for is what the rules' search over the places finds.
-use Rattle.std.proofs.Common.{ℕ, zero, suc, ◌+◌, ◌≡◌, ◌∙◌, refl, sym, Bool, Option, Some, None, List, option_map, rules, tests, inl, inr}
+use Rattle.std.proofs.Common.{ℕ, zero, suc, ◌+◌, ◌≡◌, ◌∙◌, refl, sym, Bool, rules, tests, inl, inr}
 use native.Mathlib.Numerals.{add-one}
 use Rattle.std.specs.List.{range_with_len, find as list_find}
 use Rattle.std.proofs.lemmas.Bool.{cases_Bool}
 use Rattle.std.proofs.lemmas.Iterator.{YieldsList-from_range}
+use Rattle.std.proofs.lemmas.Iterator.Adapters.{option_map_id}
 use Rattle.std.proofs.lemmas.Iterator.Search.{find_from_yields_List}
 use Rattle.house.specs.Search.{scan, find}
 use Rattle.house.specs.House.{vacancy, free_at}
@@ -15,13 +16,9 @@ unfolding scan
 found_ranged f k zero = refl
 found_ranged f k (suc n) = elim (cases_Bool (f k)) [ inl y ↦ rw y | inr y ↦ rw (y, add-one) (found_ranged f (suc k) n) ]
 
-plain : (r : Option ℕ) → option_map (λ x. x) r ≡ r
-plain (Some k) = refl
-plain None = refl
-
 pub returns : goal.returns
 unfolding vacancy free_at
 returns c =
-    sym (plain c.find.result)
+    sym (option_map_id c.find.result)
     ∙ find_from_yields_List (free_at c.args.eight) _ _ _ c.find.ensures.ran (YieldsList-from_range _ _ 8 refl refl) (λ x b q k. search (rules, tests, same_free))
     ∙ found_ranged (free_at c.args.eight) 0 8
